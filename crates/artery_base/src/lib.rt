@@ -1,0 +1,24 @@
+//! Values, their texts, and the outside.
+#![tactic(auto)]
+
+mod address;
+mod bytes;
+mod memory;
+mod message;
+mod names;
+mod numbers;
+mod sink;
+mod source;
+mod text;
+mod values;
+
+pub use address::{Address, UniqueAddress};
+pub use bytes::Bytes;
+pub use memory::NoMemory;
+pub use message::{Request, SysMsg, Tell};
+pub use names::Names;
+pub use numbers::Numbers;
+pub use sink::Sink;
+pub use source::{Failed, Source};
+pub use text::Text;
+pub use values::Values;

@@ -1,0 +1,30 @@
+use crate::address::Address;
+use crate::bytes::Bytes;
+use crate::text::Text;
+
+/// A system message: what it is written with, its manifest and its payload.
+#[derive(Clone, Debug, PartialEq, Eq, Drop)]
+pub struct SysMsg {
+    pub serializer: i32,
+    pub manifest: Bytes,
+    pub payload: Bytes,
+}
+
+/// An ordinary message from one actor to another. An absent sender or manifest is empty.
+#[derive(Clone, Debug, PartialEq, Eq, Drop)]
+pub struct Tell {
+    pub sender: Text,
+    pub recipient: Text,
+    pub serializer: i32,
+    pub manifest: Text,
+    pub payload: Bytes,
+}
+
+/// What the user of a node asks of it.
+#[derive(Clone, Debug, PartialEq, Eq, Drop)]
+pub enum Request {
+    /// Make an association with the system at the address.
+    Pair { address: Address },
+    /// Send a system message to the system at the address, in order and once.
+    Send { address: Address, message: SysMsg },
+}
