@@ -1,6 +1,7 @@
-ghost use Rattle.std.specs.Prelude.{ℕ, ◌<◌, ◌≤◌, List, length, Option, IfOk};
-ghost use Rattle.std.specs.Io.KnownBytes.{WriteAppends};
+ghost use Rattle.std.specs.Prelude.{OnOk, ℕ, ◌<◌, ◌≤◌, List, length, Option, IfOk};
+ghost use Rattle.std.specs.Io.KnownBytes.{WriteAppends, Appends};
 ghost use Rattle.artery_base.specs.Faults.{HasCause};
+ghost use Rattle.artery_base.specs.Written.{TakesFront};
 
 use crate::source::Failed;
 
@@ -20,4 +21,21 @@ pub trait Sink {
         ensures bound { IfOk result (λ n. n ≤ length piece.now) }
         ensures bytes { WriteAppends (held self.old) (held self.new) result piece.now }
         ensures cause { HasCause (faults self.old) (faults self.new) result };
+}
+
+#[tactic(auto, using(crate::proofs::WrittenLemmas::takes_nothing, crate::proofs::WrittenLemmas::takes_more, crate::proofs::WrittenLemmas::front_taken, crate::proofs::WrittenLemmas::all_taken))]
+/// Writes all of `piece`, however many bytes the sink takes at a time. At `Failed` the sink has
+/// taken a front of it.
+pub fn write_all<K: Sink>(sink: &mut K, piece: &[u8]) -> Result<(), Failed>
+    ensures all { OnOk result (Appends (K.held sink.old) (K.held sink.new) piece.now) }
+    ensures front { TakesFront (K.held sink.old) (K.held sink.new) piece.now }
+    ensures cause { HasCause (K.faults sink.old) (K.faults sink.new) result }
+{
+    let mut rest = piece;
+    while !rest.is_empty() {
+        let taken = sink.write(rest)?;
+        let (_, more) = rest.split_at(taken);
+        rest = more;
+    }
+    Ok(())
 }
