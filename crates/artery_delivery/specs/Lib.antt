@@ -1,0 +1,2 @@
+pub mod Outbound
+pub mod Inbound

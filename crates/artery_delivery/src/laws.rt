@@ -1,0 +1,21 @@
+//! The laws that tie what is kept to the whole histories. Their functions do nothing.
+ghost use Rattle.std.specs.Prelude.{◌≡◌, ℕ, false};
+ghost use Rattle.artery_base.specs.declared.message.SysMsg.{SysMsg};
+ghost use Rattle.artery_delivery.specs.Outbound.{Kept, State, Stands, nothing_kept, acceptance, kept_accepted, kept_learnt, kept_forgotten, acknowledgement, kept_acknowledged, kept_refused, kept_rewound, next_to_write, kept_pumped, nothing_sent, unacknowledged, answer_to, accepted, learnt, forgotten, answer_to_ack, acknowledged, refused, rewound, next_sent, pumped};
+
+/// What an `Outbound` keeps stands for the whole history: every call keeps it so and has the answer of the history's step.
+pub fn keeping_stands()
+    ensures start { Stands nothing_kept nothing_sent }
+    ensures accept { (m : SysMsg) (k : Kept) (s : State) → Stands k s → Stands (kept_accepted m k) (accepted m s) }
+    ensures answer { (m : SysMsg) (k : Kept) (s : State) → Stands k s → acceptance m k ≡ answer_to m s }
+    ensures learn { (k : Kept) (s : State) → Stands k s → k.learnt ≡ false → Stands (kept_learnt k) (learnt s) }
+    ensures forget { Stands kept_forgotten forgotten }
+    ensures acked { (n : ℕ) (k : Kept) (s : State) → Stands k s → acknowledgement n k ≡ answer_to_ack n s }
+    ensures ack { (n : ℕ) (k : Kept) (s : State) → Stands k s → Stands (kept_acknowledged n k) (acknowledged n s) }
+    ensures nack { (n : ℕ) (k : Kept) (s : State) → Stands k s → Stands (kept_refused n k) (refused n s) }
+    ensures rewind { (k : Kept) (s : State) → Stands k s → Stands (kept_rewound k) (rewound s) }
+    ensures next { (k : Kept) (s : State) → Stands k s → next_to_write k ≡ next_sent s }
+    ensures pump { (k : Kept) (s : State) → Stands k s → Stands (kept_pumped k) (pumped s) }
+    ensures messages { (k : Kept) (s : State) → Stands k s → k.messages ≡ unacknowledged s }
+{
+}

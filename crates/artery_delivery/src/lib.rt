@@ -1,0 +1,10 @@
+//! Delivery.
+#![tactic(auto)]
+
+mod inbound;
+mod laws;
+mod outbound;
+
+pub use inbound::{Opened, Take};
+pub use outbound::{Accept, Acked};
+pub use laws::keeping_stands;
