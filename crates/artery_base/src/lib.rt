@@ -3,6 +3,7 @@
 
 mod address;
 mod bytes;
+mod fault;
 mod memory;
 mod message;
 mod names;
@@ -14,6 +15,7 @@ mod values;
 
 pub use address::{Address, UniqueAddress};
 pub use bytes::Bytes;
+pub use fault::{AddressFault, Part, TextFault, WordFault};
 pub use memory::NoMemory;
 pub use message::{Request, SysMsg, Tell};
 pub use names::Names;
