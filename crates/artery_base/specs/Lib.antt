@@ -1,2 +1,4 @@
 pub mod Faults
 pub mod Written
+pub mod Reading
+pub mod Spelling

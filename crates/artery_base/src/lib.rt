@@ -4,6 +4,7 @@
 mod adapters;
 mod address;
 mod bytes;
+mod fault;
 mod in_memory;
 mod memory;
 mod message;
@@ -17,6 +18,7 @@ mod values;
 pub use adapters::{StdSink, StdSource};
 pub use address::{Address, UniqueAddress};
 pub use bytes::Bytes;
+pub use fault::{AddressFault, Part, TextFault, WordFault};
 pub use in_memory::{FreeSink, FreeSource, MemSink, MemSource};
 pub use memory::NoMemory;
 pub use message::{Request, SysMsg, Tell};

@@ -1,0 +1,87 @@
+-- The texts of values. Each value has one spelling.
+use Rattle.std.specs.Prelude.{ℕ, ◌+◌, ◌/◌, ◌%◌, ◌^◌, ◌<◌, ◌≤◌, Bool, not, ◌&&◌, ◌||◌, ◌==◌, nat_lt, if◌then◌else◌, IsTrue, List, [], ◌∷◌, ◌++◌, length, codes, decimal, slice_index, flat_map}
+use Rattle.std.specs.Int.{is_in_range}
+use Rattle.std.specs.List.{list_all}
+use Rattle.artery_base.specs.declared.address.Address.{Address}
+use Rattle.artery_base.specs.declared.address.UniqueAddress.{UniqueAddress}
+
+-- each is a byte
+abbrev pub AreBytes : List ℕ → Type 0
+AreBytes bytes = (k : ℕ) → slice_index bytes k < 256
+
+-- a visible ASCII character: neither the space that parts tokens nor the line feed that ends lines
+abbrev pub is_visible : ℕ → Bool
+is_visible b = is_in_range 33 126 b
+
+-- one token of a line: not empty, each byte visible
+pub record IsToken (text : List ℕ) : Type 0 where
+  pub some : 0 < length text
+  pub visible : IsTrue (list_all is_visible text)
+
+-- the digit of a number below 16: `0` to `9`, then `a` to `f`
+abbrev pub hex_digit : ℕ → ℕ
+hex_digit d = if nat_lt d 10 then 48 + d else 87 + d
+
+-- a byte as two digits, the high four bits first
+abbrev pub hex_pair : ℕ → List ℕ
+hex_pair b = hex_digit (b / 16) ∷ hex_digit (b % 16) ∷ []
+
+-- hexadecimal: two digits a byte, and `-` for no bytes
+abbrev pub hex_text : List ℕ → List ℕ
+hex_text [] = codes "-"
+hex_text (b ∷ bytes) = flat_map hex_pair (b ∷ bytes)
+
+-- whether a word has this byte as itself: visible, and no `%`
+abbrev pub is_plain : ℕ → Bool
+is_plain b = is_visible b && not (b == 37)
+
+-- `%` and the byte's two digits
+abbrev pub escaped : ℕ → List ℕ
+escaped b = 37 ∷ hex_pair b
+
+-- a byte within a word
+abbrev pub word_piece : ℕ → List ℕ
+word_piece b = if is_plain b then b ∷ [] else escaped b
+
+-- whether this first byte is escaped although it is plain: each `@`, and a `-` that nothing follows
+abbrev pub is_reserved : ℕ → List ℕ → Bool
+is_reserved b bytes = b == 64 || (b == 45 && length bytes == 0)
+
+-- the first piece of a word of b and the bytes after it
+abbrev pub first_piece : ℕ → List ℕ → List ℕ
+first_piece b bytes = if is_reserved b bytes then escaped b else word_piece b
+
+-- a word: its pieces in a row, and `-` for no bytes
+abbrev pub word_text : List ℕ → List ℕ
+word_text [] = codes "-"
+word_text (b ∷ bytes) = first_piece b bytes ++ flat_map word_piece bytes
+
+-- whether a part of an address may have this byte: a letter, a digit, `-`, `_` or `.`
+abbrev pub is_part_byte : ℕ → Bool
+is_part_byte b = is_in_range 97 122 b || is_in_range 65 90 b || is_in_range 48 57 b || b == 45 || b == 95 || b == 46
+
+-- a part of an address: 1 to 255 such bytes
+pub record IsPart (part : List ℕ) : Type 0 where
+  pub some : 1 ≤ length part
+  pub short : length part ≤ 255
+  pub made_of : IsTrue (list_all is_part_byte part)
+
+-- an address that has a text
+pub record IsAddress (a : Address) : Type 0 where
+  pub protocol : IsPart a.protocol
+  pub system : IsPart a.system
+  pub host : IsPart a.host
+  pub port : (1 ≤ a.port) × (a.port ≤ 65535)
+
+-- an address: PROTOCOL://SYSTEM@HOST:PORT
+abbrev pub address_text : Address → List ℕ
+address_text a = a.protocol ++ codes "://" ++ a.system ++ codes "@" ++ a.host ++ codes ":" ++ decimal a.port
+
+-- a unique address that has a text
+pub record IsUniqueAddress (u : UniqueAddress) : Type 0 where
+  pub address : IsAddress u.address
+  pub uid : u.uid < 2 ^ 64
+
+-- a unique address: ADDRESS#UID
+abbrev pub unique_text : UniqueAddress → List ℕ
+unique_text u = address_text u.address ++ codes "#" ++ decimal u.uid
