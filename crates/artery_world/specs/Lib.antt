@@ -1,0 +1,4 @@
+pub mod Lookup
+pub mod World
+pub mod Step
+pub mod Laws

@@ -1,0 +1,267 @@
+-- The step of the early world: what an event makes of a world and its journal.
+use Rattle.std.specs.Prelude.{ℕ, zero, suc, ◌+◌, ◌-◌, min, Bool, true, false, not, ◌==◌, nat_lt, if◌then◌else◌, List, [], ◌∷◌, ◌++◌, length, take, drop, slice_get, slice_set, find, Option, None, Some, is_some, Result, Ok, Err}
+use Rattle.std.specs.List.{list_any}
+use Rattle.artery_base.specs.declared.address.Address.{Address}
+use Rattle.artery_base.specs.declared.address.UniqueAddress.{UniqueAddress}
+use Rattle.artery_base.specs.declared.message.SysMsg.{SysMsg}
+use Rattle.artery_base.specs.declared.message.Request.{Request}
+use Rattle.artery_base.specs.declared.message.Request.TheVariants.{Pair, Send}
+use Rattle.artery_delivery.specs.Outbound.{Kept, given, is_full, acceptance, kept_accepted, kept_learnt, kept_acknowledged}
+use Rattle.artery_delivery.specs.declared.outbound.TheConstants.{WINDOW}
+use Rattle.artery_delivery.specs.declared.outbound.Accept.{Accept}
+use Rattle.artery_delivery.specs.declared.outbound.Accept.TheVariants.{Accepted, Waiting, Overflow}
+use Rattle.artery_delivery.specs.Inbound.{expected_of, with_origin, taking, with_taken}
+use Rattle.artery_delivery.specs.declared.inbound.Take.{Take}
+use Rattle.artery_delivery.specs.declared.inbound.Take.TheVariants.{Taken, Again, Gap}
+use Rattle.artery_world.specs.declared.event.Event.{Event}
+use Rattle.artery_world.specs.declared.event.Event.TheVariants.{Start, At, Pass}
+use Rattle.artery_world.specs.declared.event.Parcel.{Parcel}
+use Rattle.artery_world.specs.declared.event.Parcel.TheVariants.{Numbered, Ack}
+use Rattle.artery_world.specs.declared.event.Pending.{Pending}
+use Rattle.artery_world.specs.declared.line.Line.{Line}
+use Rattle.artery_world.specs.declared.line.Line.TheVariants.{Started, Learnt, Sent, Took}
+use Rattle.artery_world.specs.declared.fault.Why.{Why}
+use Rattle.artery_world.specs.declared.fault.Why.TheVariants.{UsedUid, AddressLive, NotLive, OwnAddress}
+use Rattle.artery_world.specs.declared.fault.WorldLimit.{WorldLimit}
+use Rattle.artery_world.specs.declared.fault.WorldLimit.TheVariants as limits
+use Rattle.artery_world.specs.declared.fault.WorldFault.{WorldFault}
+use Rattle.artery_world.specs.declared.fault.WorldFault.TheVariants.{NotAllowed, Limit}
+use Rattle.artery_world.specs.declared.world.TheConstants.{MOST_NODES}
+use Rattle.artery_world.specs.Lookup.{change_first}
+use Rattle.artery_world.specs.World.{PeerState, NodeState, LinkState, Net, World, new_peer, new_node, has_uid, lives_at, is_at, node_of, peer_of, same_address}
+
+-- ---- changes of one part
+
+abbrev pub in_node : ℕ → (NodeState → NodeState) → Net → Net
+in_node uid f net = record net { live = change_first (has_uid uid) f net.live }
+
+abbrev pub in_peer : ℕ → Address → (PeerState → PeerState) → Net → Net
+in_peer uid address f net = in_node uid (λ n. record n { peers = change_first (is_at address) f n.peers }) net
+
+abbrev pub with_outbound : (Kept → Kept) → PeerState → PeerState
+with_outbound f p = record p { outbound = f p.outbound }
+
+abbrev pub on_net : (Net → Net) → World → World
+on_net f w = record w { net = f w.net }
+
+-- lines are written at the end of the journal
+abbrev pub tells : List Line → World → World
+tells lines w = record w { journal = w.journal ++ lines }
+
+-- ---- links
+
+abbrev pub joins : ℕ → ℕ → LinkState → Bool
+joins from to l = if l.from == from then l.to == to else false
+
+abbrev pub has_link : ℕ → ℕ → Net → Bool
+has_link from to net = list_any (joins from to) net.links
+
+abbrev pub new_link : ℕ → ℕ → LinkState
+new_link from to = record { from = from; to = to; values = [] }
+
+-- values go to the end of the link between these two
+abbrev pub puts : ℕ → ℕ → List Parcel → Net → Net
+puts from to values net = record net { links = change_first (joins from to) (λ l. record l { values = l.values ++ values }) net.links }
+
+-- ---- sending
+
+-- messages as parcels, numbered from n on
+abbrev pub numbered : ℕ → List SysMsg → List Parcel
+numbered n [] = []
+numbered n (m ∷ ms) = Numbered n m ∷ numbered (n + 1) ms
+
+-- the last number that may be written: at most the window above the acknowledged one
+abbrev pub last_to_write : Kept → ℕ
+last_to_write k = min (given k) (k.acknowledged + WINDOW)
+
+-- all parcels that may be written: the kept messages past the written number, within the window
+abbrev pub parcels_of : Kept → List Parcel
+parcels_of k = if k.learnt then numbered (k.written + 1) (take (last_to_write k - k.written) (drop (k.written - k.acknowledged) k.messages)) else []
+
+-- and then they are written
+abbrev pub all_written : Kept → Kept
+all_written k = if k.learnt then record k { written = k.written + (last_to_write k - k.written) } else k
+
+abbrev pub pumps_over : ℕ → Address → ℕ → Kept → Net → Net
+pumps_over uid address other k net =
+    if has_link uid other net
+    then puts uid other (parcels_of k) (in_peer uid address (with_outbound all_written) net)
+    else net
+
+abbrev pub pumps_current : ℕ → Address → Option ℕ → Kept → Net → Net
+pumps_current uid address None k net = net
+pumps_current uid address (Some other) k net = pumps_over uid address other k net
+
+abbrev pub pumps_peer : ℕ → Address → Option PeerState → Net → Net
+pumps_peer uid address None net = net
+pumps_peer uid address (Some p) net = pumps_current uid address p.current p.outbound net
+
+-- a peer is pumped onto the link to its current incarnation, where there is one
+abbrev pub pumps : ℕ → Address → Net → Net
+pumps uid address net = pumps_peer uid address (peer_of uid address net) net
+
+-- ---- requests
+
+abbrev pub knows : Address → NodeState → Bool
+knows address n = list_any (is_at address) n.peers
+
+-- a peer is made where the address is new to the incarnation
+abbrev pub with_peer : Address → NodeState → NodeState
+with_peer address n = if knows address n then n else record n { peers = n.peers ++ new_peer address ∷ [] }
+
+-- an address that is new to the incarnation becomes a peer, and a pair to be made
+abbrev pub asks : NodeState → Address → Net → Net
+asks n address net =
+    if knows address n then net
+    else record (in_node n.me.uid (with_peer address) net) { pending = net.pending ++ record { asker = n.me.uid; address = address } ∷ [] }
+
+abbrev pub unique_at : Address → ℕ → UniqueAddress
+unique_at address uid = record { address = address; uid = uid }
+
+-- an accepted message is told with its number, and pumped; one that waits is told later; one too many ends the run
+abbrev pub sends_to : UniqueAddress → PeerState → SysMsg → Accept → World → Result World WorldFault
+sends_to me p message (Overflow back) w = Err (Limit limits.Kept)
+sends_to me p message (Waiting place) w = Ok (on_net (in_peer me.uid p.address (with_outbound (kept_accepted message))) w)
+sends_to me p message (Accepted n) w = Ok (on_net (pumps me.uid p.address) (told_to p.current (on_net (in_peer me.uid p.address (with_outbound (kept_accepted message))) w)))
+  where
+    told_to : Option ℕ → World → World
+    told_to None v = v
+    told_to (Some uid) v = tells (Sent me (unique_at p.address uid) n message ∷ []) v
+
+abbrev pub sends_over : UniqueAddress → Option PeerState → SysMsg → World → Result World WorldFault
+sends_over me None message w = Ok w
+sends_over me (Some p) message w = sends_to me p message (acceptance message p.outbound) w
+
+abbrev pub sends : UniqueAddress → Address → SysMsg → World → Result World WorldFault
+sends me address message w = sends_over me (peer_of me.uid address w.net) message w
+
+-- ---- meeting
+
+-- waiting messages are told as sent, numbered from n on
+abbrev pub sent_lines : UniqueAddress → UniqueAddress → ℕ → List SysMsg → List Line
+sent_lines of other n [] = []
+sent_lines of other n (m ∷ ms) = Sent of other n m ∷ sent_lines of other (n + 1) ms
+
+abbrev pub learnt_peer : ℕ → PeerState → PeerState
+learnt_peer uid p = record p { current = Some uid; outbound = kept_learnt p.outbound }
+
+-- where no UID is learnt yet, the incarnation is learnt, and all that waited is sent to it
+abbrev pub learns : UniqueAddress → UniqueAddress → Option PeerState → World → World
+learns me other None w = w
+learns me other (Some p) w =
+    if is_some p.current then w
+    else tells (Learnt me other ∷ sent_lines me other 1 p.outbound.messages) (on_net (in_peer me.uid other.address (learnt_peer other.uid)) w)
+
+-- a new link is made where there is none, and the peer is pumped onto it
+abbrev pub links_up : ℕ → UniqueAddress → Net → Net
+links_up uid other net =
+    if has_link uid other.uid net then net
+    else pumps uid other.address (record net { links = net.links ++ new_link uid other.uid ∷ [] })
+
+abbrev pub opens : UniqueAddress → NodeState → NodeState
+opens other n = record n { inbound = with_origin other n.inbound }
+
+-- one incarnation meets another: the peer is made, the origin opened, the incarnation learnt, the link made
+abbrev pub meets : UniqueAddress → UniqueAddress → World → World
+meets me other w =
+    let known = on_net (in_node me.uid (λ n. opens other (with_peer other.address n))) w in
+    on_net (links_up me.uid other) (learns me other (peer_of me.uid other.address known.net) known)
+
+-- ---- passing
+
+-- a pair is made where somebody lives at the address: each meets the other, the asker first. Else it stays
+abbrev pub settles_with : Pending → Option NodeState → Option NodeState → World → World
+settles_with p None b w = w
+settles_with p (Some a) None w = on_net (λ net. record net { pending = net.pending ++ p ∷ [] }) w
+settles_with p (Some a) (Some b) w = meets b.me a.me (meets a.me b.me w)
+
+abbrev pub settles : Pending → World → World
+settles p w = settles_with p (node_of p.asker w.net) (find (lives_at p.address) w.net.live) w
+
+abbrev pub settles_all : List Pending → World → World
+settles_all [] w = w
+settles_all (p ∷ ps) w = settles_all ps (settles p w)
+
+-- the pairs pending at the beginning are taken in order
+abbrev pub pairs_up : World → World
+pairs_up w = settles_all w.net.pending (on_net (λ net. record net { pending = [] }) w)
+
+-- a message with the expected number is taken and acknowledged; any other changes nothing
+abbrev pub takes : UniqueAddress → UniqueAddress → ℕ → SysMsg → Take → World → World
+takes me origin n message Taken w =
+    on_net (puts me.uid origin.uid (Ack n ∷ []))
+    (tells (Took me origin n message ∷ []) (on_net (in_node me.uid (λ b. record b { inbound = with_taken origin n b.inbound })) w))
+takes me origin n message (Again last) w = w
+takes me origin n message (Gap last) w = w
+
+-- a value from an origin that is not open is passed over
+abbrev pub arrives_from : NodeState → UniqueAddress → Parcel → World → World
+arrives_from b origin (Numbered n message) w =
+    if is_some (expected_of origin b.inbound) then takes b.me origin n message (taking origin n b.inbound) w else w
+arrives_from b origin (Ack n) w =
+    on_net (λ net. pumps b.me.uid origin.address (in_peer b.me.uid origin.address (with_outbound (kept_acknowledged n)) net)) w
+
+abbrev pub arrives_between : Option NodeState → Option NodeState → Parcel → World → World
+arrives_between None b parcel w = w
+arrives_between (Some a) None parcel w = w
+arrives_between (Some a) (Some b) parcel w = arrives_from b a.me parcel w
+
+abbrev pub arrives : ℕ → ℕ → Parcel → World → World
+arrives from to parcel w = arrives_between (node_of from w.net) (node_of to w.net) parcel w
+
+abbrev pub arrive_all : ℕ → ℕ → List Parcel → World → World
+arrive_all from to [] w = w
+arrive_all from to (v ∷ vs) w = arrive_all from to vs (arrives from to v w)
+
+abbrev pub delivers_link : ℕ → Option LinkState → World → World
+delivers_link k None w = w
+delivers_link k (Some l) w =
+    arrive_all l.from l.to l.values (on_net (λ net. record net { links = slice_set net.links k (record l { values = [] }) }) w)
+
+-- a link gives up the values that it holds, in order
+abbrev pub delivers : ℕ → World → World
+delivers k w = delivers_link k (slice_get w.net.links k) w
+
+-- so do the first n links, in the order made
+abbrev pub delivers_first : ℕ → World → World
+delivers_first zero w = w
+delivers_first (suc n) w = delivers n (delivers_first n w)
+
+abbrev pub delivers_each : World → World
+delivers_each w = delivers_first (length w.net.links) w
+
+-- a round: the pairs, and then every link made so far
+abbrev pub passes : World → World
+passes w = delivers_each (pairs_up w)
+
+abbrev pub passes_times : ℕ → World → World
+passes_times zero w = w
+passes_times (suc k) w = passes (passes_times k w)
+
+-- ---- events
+
+abbrev pub starts : UniqueAddress → World → Result World WorldFault
+starts unique w =
+    if list_any (λ uid. uid == unique.uid) w.net.started then Err (NotAllowed UsedUid)
+    else if list_any (lives_at unique.address) w.net.live then Err (NotAllowed AddressLive)
+    else if nat_lt (length w.net.live) MOST_NODES
+    then Ok (tells (Started unique ∷ []) (on_net (λ net. record net { started = net.started ++ unique.uid ∷ []; live = net.live ++ new_node unique ∷ [] }) w))
+    else Err (Limit limits.Nodes)
+
+abbrev pub named : Request → Address
+named (Pair address) = address
+named (Send address message) = address
+
+abbrev pub requested : NodeState → Request → World → Result World WorldFault
+requested n (Pair address) w = Ok (on_net (asks n address) w)
+requested n (Send address message) w = sends n.me address message (on_net (asks n address) w)
+
+abbrev pub asked : Option NodeState → Request → World → Result World WorldFault
+asked None request w = Err (NotAllowed NotLive)
+asked (Some n) request w = if same_address n.me.address (named request) then Err (NotAllowed OwnAddress) else requested n request w
+
+-- the world after an event, or why it does not happen
+abbrev pub step : Event → World → Result World WorldFault
+step (Start unique) w = starts unique w
+step (At uid request) w = asked (node_of uid w.net) request w
+step (Pass rounds) w = Ok (passes_times rounds w)

@@ -1,0 +1,68 @@
+-- The state of the early world, which carries message values, and its journal.
+use Rattle.std.specs.Prelude.{ℕ, Bool, ◌==◌, List, [], Option, None, find, option_and_then}
+use Rattle.artery_base.specs.declared.address.Address.{Address}
+use Rattle.artery_base.specs.declared.address.UniqueAddress.{UniqueAddress}
+use Rattle.artery_base.specs.contracts.address.AddressPartialEq.TheImpl as address_eq
+use Rattle.artery_delivery.specs.Outbound.{Kept, nothing_kept}
+use Rattle.artery_world.specs.declared.event.Parcel.{Parcel}
+use Rattle.artery_world.specs.declared.event.Pending.{Pending}
+use Rattle.artery_world.specs.declared.line.Line.{Line}
+
+-- whether two addresses are the same
+abbrev pub same_address : Address → Address → Bool
+same_address = (address_eq.ghosts).eq
+
+-- what an incarnation keeps of a peer: its address, the UID that was learnt there, and the messages to it
+pub record PeerState : Type 0 where
+  pub address : Address
+  pub current : Option ℕ
+  pub outbound : Kept
+
+-- a live incarnation: who it is, its peers in the order made, and the number expected of each origin
+pub record NodeState : Type 0 where
+  pub me : UniqueAddress
+  pub peers : List PeerState
+  pub inbound : List (UniqueAddress × ℕ)
+
+-- a link between two incarnations, named by their UIDs, with the values on it in order
+pub record LinkState : Type 0 where
+  pub from : ℕ
+  pub to : ℕ
+  pub values : List Parcel
+
+-- the UIDs that were started, the live incarnations, the pairs asked for, and the links, all in the order made
+pub record Net : Type 0 where
+  pub started : List ℕ
+  pub live : List NodeState
+  pub pending : List Pending
+  pub links : List LinkState
+
+-- a world: its net, and all lines written so far
+pub record World : Type 0 where
+  pub net : Net
+  pub journal : List Line
+
+-- nothing has happened
+abbrev pub nothing : World
+nothing = record { net = record { started = []; live = []; pending = []; links = [] }; journal = [] }
+
+abbrev pub new_peer : Address → PeerState
+new_peer address = record { address = address; current = None; outbound = nothing_kept }
+
+abbrev pub new_node : UniqueAddress → NodeState
+new_node me = record { me = me; peers = []; inbound = [] }
+
+abbrev pub has_uid : ℕ → NodeState → Bool
+has_uid uid n = n.me.uid == uid
+
+abbrev pub lives_at : Address → NodeState → Bool
+lives_at address n = same_address n.me.address address
+
+abbrev pub is_at : Address → PeerState → Bool
+is_at address p = same_address p.address address
+
+abbrev pub node_of : ℕ → Net → Option NodeState
+node_of uid net = find (has_uid uid) net.live
+
+abbrev pub peer_of : ℕ → Address → Net → Option PeerState
+peer_of uid address net = option_and_then (λ n. find (is_at address) n.peers) (node_of uid net)

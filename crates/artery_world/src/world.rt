@@ -1,0 +1,2 @@
+/// The most incarnations that live at a time.
+pub const MOST_NODES: usize = 64;
