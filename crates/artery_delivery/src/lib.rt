@@ -7,4 +7,4 @@ mod outbound;
 
 pub use inbound::{Opened, Take};
 pub use outbound::{Accept, Acked};
-pub use laws::keeping_stands;
+pub use laws::{expecting_stands, keeping_stands};
