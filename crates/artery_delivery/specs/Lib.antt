@@ -1,2 +1,3 @@
 pub mod Outbound
 pub mod Inbound
+pub mod Rings

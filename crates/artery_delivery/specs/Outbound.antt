@@ -1,5 +1,5 @@
 -- The system messages to one peer: what is kept of them, and the whole list that it stands for.
-use Rattle.std.specs.Prelude.{◌≡◌, ℕ, ◌+◌, ◌-◌, ◌≤◌, Bool, true, false, ◌&&◌, ◌||◌, nat_lt, nat_le, max, List, [], ◌∷◌, ◌++◌, length, drop, slice_get, Option, Some, None, is_some, if◌then◌else◌}
+use Rattle.std.specs.Prelude.{◌≡◌, ℕ, ◌+◌, ◌-◌, ◌≤◌, Bool, true, false, ◌&&◌, ◌||◌, ◌==◌, nat_lt, nat_le, max, List, [], ◌∷◌, ◌++◌, length, drop, slice_get, Option, Some, None, is_some, if◌then◌else◌}
 use Rattle.std.specs.Option.{option_map}
 use Rattle.artery_base.specs.declared.message.SysMsg.{SysMsg}
 use Rattle.artery_delivery.specs.declared.outbound.TheConstants.{MOST_KEPT, WINDOW, LAST_NUMBER}
@@ -78,6 +78,10 @@ next_to_write k =
 -- Where there is a next message, it counts as written.
 abbrev pub kept_pumped : Kept → Kept
 kept_pumped k = if is_some (next_to_write k) then record k { written = k.written + 1 } else k
+
+-- The kept message at a place, counted from 1.
+abbrev pub kept_message : ℕ → Kept → Option SysMsg
+kept_message place k = if place == 0 then None else slice_get k.messages (place - 1)
 
 -- The whole history with the current incarnation of a peer: all messages sent to it, never shortened; the greatest numbers
 -- acknowledged and written; the messages that wait for a UID; and whether one is learnt.
