@@ -1,7 +1,9 @@
 //! The messages to one peer that are not acknowledged yet.
-ghost use Rattle.std.specs.Prelude.{◌≡◌, ◌+◌, ◌<◌, ◌≤◌, true, false, length, OnOk, OnErr};
-ghost use Rattle.std.specs.Option.{option_copied};
-ghost use Rattle.artery_delivery.specs.Outbound.{State, Stands, nothing_kept, is_full, given, acceptance, kept_accepted, kept_learnt, kept_forgotten, acknowledgement, kept_acknowledged, kept_refused, kept_rewound, kept_message, answer_to, accepted, learnt, forgotten, answer_to_ack, acknowledged, refused, rewound};
+ghost use Rattle.std.specs.Prelude.{◌≡◌, ◌+◌, ◌<◌, ◌≤◌, true, false, length, OnOk, OnErr, IsOk, is_some, IfSome, IfNone, None};
+ghost use Rattle.std.specs.Option.{option_copied, option_map};
+ghost use Rattle.std.specs.Borrow.{sem};
+ghost use Rattle.artery_delivery.specs.Lending.{EndsPumped, Pumps};
+ghost use Rattle.artery_delivery.specs.Outbound.{State, Stands, nothing_kept, is_full, given, acceptance, kept_accepted, kept_learnt, kept_forgotten, acknowledgement, kept_acknowledged, kept_refused, kept_rewound, kept_message, next_to_write, room_reserved, answer_to, accepted, learnt, forgotten, answer_to_ack, acknowledged, refused, rewound, next_sent};
 
 use artery_base::{NoMemory, SysMsg};
 use circular_buffer::HeapCircularBuffer;
@@ -118,6 +120,32 @@ impl Outbound {
         self.kept() >= MOST_KEPT || self.given() >= LAST_NUMBER
     }
 
+    /// Makes room for one more message, unless it would overflow: then nothing is done. Keeps what is kept.
+    ///
+    /// Takes memory only where no place is free, and then for twice as many places, at most 20,000. Without memory nothing changes.
+    pub fn reserve(&mut self, alloc: Global) -> Result<(), NoMemory>
+        ensures kept { self.new.kept ≡ self.old.kept }
+        ensures room { OnOk result (self.new.room ≡ room_reserved self.old) }
+        ensures free { OnOk result (is_full self.new.kept ≡ false → length self.new.kept.messages < self.new.room) }
+        ensures full { is_full self.old.kept ≡ true → IsOk result × (self.new ≡ self.old) }
+        ensures had { length self.old.kept.messages < self.old.room → IsOk result × (self.new ≡ self.old) }
+        ensures err { OnErr result (self.new ≡ self.old) }
+    {
+        if self.is_full() {
+            return Ok(());
+        }
+        match &mut self.ring {
+            Some(ring) => {
+                if ring.is_full() {
+                    let places = (2 * ring.capacity()).max(FIRST_ROOM);
+                    ring.resize(places.min(MOST_KEPT as usize))?;
+                }
+            }
+            None => self.ring = Some(HeapCircularBuffer::with_capacity(alloc, FIRST_ROOM)?),
+        }
+        Ok(())
+    }
+
     /// Keeps a message as the newest, if there is room for it; else hands it back.
     ///
     /// Wants room for one more message, which `reserve` makes, unless it overflows.
@@ -218,5 +246,32 @@ impl Outbound {
             self.rewind();
         }
         answer
+    }
+
+    /// Counts the next message to write as written, and answers its number and its place among the kept ones, counted from 1.
+    fn advance(&mut self) -> Option<(u64, u64)>
+        ensures some { IfSome result (λ p. is_some (kept_message p.1 self.new.kept) ≡ true) }
+        ensures next { IfSome result (λ p. next_to_write self.old.kept ≡ option_map (λ m. (p.0, m)) (kept_message p.1 self.new.kept)) }
+        ensures none { IfNone result (next_to_write self.old.kept ≡ None) }
+        ensures pumps { Pumps self.old self.new }
+    {
+        let ahead = self.written - self.acknowledged;
+        if !self.learnt || ahead >= WINDOW || ahead >= self.kept() {
+            return None;
+        }
+        self.written += 1;
+        Some((self.written, ahead + 1))
+    }
+
+    /// The next message to write with its number, which then counts as written. None exactly where no UID is learnt, or where there
+    /// is no message with a number up to 1,024 above the acknowledged one that is not written.
+    pub fn pump(&mut self) -> Option<(u64, &SysMsg)>
+        ensures* after { sem 𝓛 (EndsPumped self.entry) }
+        ensures next { option_map (λ p. (p.0, p.1.now)) result ≡ next_to_write self.old.kept }
+        ensures history { (s : State) → Stands self.old.kept s → option_map (λ p. (p.0, p.1.now)) result ≡ next_sent s }
+    {
+        let (n, place) = self.advance()?;
+        let message = self.message(place).unwrap();
+        Some((n, message))
     }
 }
