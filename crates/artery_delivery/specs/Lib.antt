@@ -1,2 +1,4 @@
 pub mod Outbound
 pub mod Inbound
+pub mod Rings
+pub mod Lending

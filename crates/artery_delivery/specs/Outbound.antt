@@ -1,8 +1,8 @@
 -- The system messages to one peer: what is kept of them, and the whole list that it stands for.
-use Rattle.std.specs.Prelude.{◌≡◌, ℕ, ◌+◌, ◌-◌, ◌≤◌, Bool, true, false, ◌&&◌, ◌||◌, nat_lt, nat_le, max, List, [], ◌∷◌, ◌++◌, length, drop, slice_get, Option, Some, None, is_some, if◌then◌else◌}
+use Rattle.std.specs.Prelude.{◌≡◌, ℕ, ◌+◌, ◌-◌, ◌*◌, ◌≤◌, Bool, true, false, ◌&&◌, ◌||◌, ◌==◌, nat_lt, nat_le, max, min, List, [], ◌∷◌, ◌++◌, length, drop, slice_get, Option, Some, None, is_some, if◌then◌else◌}
 use Rattle.std.specs.Option.{option_map}
 use Rattle.artery_base.specs.declared.message.SysMsg.{SysMsg}
-use Rattle.artery_delivery.specs.declared.outbound.TheConstants.{MOST_KEPT, WINDOW, LAST_NUMBER}
+use Rattle.artery_delivery.specs.declared.outbound.TheConstants.{MOST_KEPT, WINDOW, LAST_NUMBER, FIRST_ROOM}
 use Rattle.artery_delivery.specs.declared.outbound.Accept.{Accept}
 use Rattle.artery_delivery.specs.declared.outbound.Accept.TheVariants.{Accepted, Waiting, Overflow}
 use Rattle.artery_delivery.specs.declared.outbound.Acked.{Acked}
@@ -78,6 +78,15 @@ next_to_write k =
 -- Where there is a next message, it counts as written.
 abbrev pub kept_pumped : Kept → Kept
 kept_pumped k = if is_some (next_to_write k) then record k { written = k.written + 1 } else k
+
+-- The kept message at a place, counted from 1.
+abbrev pub kept_message : ℕ → Kept → Option SysMsg
+kept_message place k = if place == 0 then None else slice_get k.messages (place - 1)
+
+-- The places after a reserve: as before where one is free or nothing more is accepted, else twice as many, from 16 up to 20,000.
+abbrev pub room_reserved : Outbox → ℕ
+room_reserved o =
+    if is_full o.kept || nat_lt (length o.kept.messages) o.room then o.room else min MOST_KEPT (max FIRST_ROOM (2 * o.room))
 
 -- The whole history with the current incarnation of a peer: all messages sent to it, never shortened; the greatest numbers
 -- acknowledged and written; the messages that wait for a UID; and whether one is learnt.

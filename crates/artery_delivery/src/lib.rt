@@ -6,5 +6,5 @@ mod laws;
 mod outbound;
 
 pub use inbound::{Opened, Take};
-pub use outbound::{Accept, Acked};
-pub use laws::keeping_stands;
+pub use outbound::{Accept, Acked, Outbound};
+pub use laws::{expecting_stands, keeping_stands};
