@@ -1,0 +1,4 @@
+pub mod Lists
+pub mod Journal
+pub mod Sending
+pub mod Books
