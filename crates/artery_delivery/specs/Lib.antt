@@ -1,4 +1,5 @@
 pub mod Outbound
 pub mod Inbound
 pub mod Rings
+pub mod Entries
 pub mod Lending

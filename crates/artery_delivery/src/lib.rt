@@ -5,6 +5,6 @@ mod inbound;
 mod laws;
 mod outbound;
 
-pub use inbound::{Opened, Take};
+pub use inbound::{Inbound, Opened, Take};
 pub use outbound::{Accept, Acked, Outbound};
 pub use laws::{expecting_stands, keeping_stands};
