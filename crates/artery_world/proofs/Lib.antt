@@ -2,3 +2,4 @@ pub mod Lists
 pub mod Journal
 pub mod Sending
 pub mod Books
+pub mod Goes
