@@ -3,3 +3,4 @@ pub mod Journal
 pub mod Sending
 pub mod Books
 pub mod Goes
+pub mod Meets
