@@ -4,3 +4,4 @@ pub mod Sending
 pub mod Books
 pub mod Goes
 pub mod Meets
+pub mod Arrivals

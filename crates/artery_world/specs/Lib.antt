@@ -2,3 +2,4 @@ pub mod Lookup
 pub mod World
 pub mod Step
 pub mod Laws
+pub mod Replay

@@ -5,8 +5,10 @@ mod event;
 mod fault;
 mod laws;
 mod line;
+mod script;
 mod world;
 
 pub use event::{Event, Parcel, Pending};
 pub use fault::{Why, WorldFault, WorldLimit};
 pub use line::Line;
+pub use script::ScriptLine;
