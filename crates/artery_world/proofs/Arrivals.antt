@@ -120,48 +120,48 @@ takes_goes w a b n m books from to sent known taken =
     let is_next : n ≡ length (taken_by b.me a.me w.journal) + 1 = (let P : Option ℕ → Type 0 = λ o. TakesRight o (taken_by b.me a.me w.journal) in subst P expected.0 (facts.takes a.me)) in
     let place : n ≡ 1 + sent.0 = sent_place (sending_in a.peers b.me) _ sent.0 n m ((books.nodes a.me.uid a from).sends b.me) sent.1 in
     let prefix : IsPrefix (taken_by b.me a.me w.journal ++ (n, m) ∷ []) (sent_by a.me b.me w.journal) =
-        next_taken _ _ sent.0 n m (books.proper.now a.me b.me) sent.1 (omega arith) in
+    next_taken _ _ sent.0 n m (books.proper.now a.me b.me) sent.1 (omega arith) in
     let proper : Proper J = proper_push w.journal line books.proper.lawful (λ c d.
-        by_test (same_origin d b.me && same_origin c a.me)
-          (λ t.
-            let e = both (same_origin d b.me) (same_origin c a.me) t in
-            let db : d ≡ b.me = same_is d b.me e.0 in
-            let ca : c ≡ a.me = same_is c a.me e.1 in
-            let P : UniqueAddress → Type 0 = λ x. IsPrefix (taken_by x a.me J) (sent_by a.me x J) in
-            let Q : UniqueAddress → Type 0 = λ x. IsPrefix (taken_by d x J) (sent_by x d J) in
-            let R : List (ℕ × SysMsg) → Type 0 = λ xs. IsPrefix xs (sent_by a.me b.me J) in
-            let S : List (ℕ × SysMsg) → Type 0 = λ xs. IsPrefix (taken_by b.me a.me w.journal ++ (n, m) ∷ []) xs in
-            subst Q (sym ca) (subst P (sym db) (subst R (sym (taken_here b.me a.me n m w.journal)) (subst S (sym (sent_not b.me a.me a.me b.me n m w.journal)) prefix))))
-          (λ t.
-            let R : List (ℕ × SysMsg) → Type 0 = λ xs. IsPrefix xs (sent_by c d J) in
-            let S : List (ℕ × SysMsg) → Type 0 = λ xs. IsPrefix (taken_by d c w.journal) xs in
-            subst R (sym (taken_not b.me a.me d c n m w.journal t)) (subst S (sym (sent_not b.me a.me c d n m w.journal)) (books.proper.now c d)))) in
+    by_test (same_origin d b.me && same_origin c a.me)
+    (λ t.
+    let e = both (same_origin d b.me) (same_origin c a.me) t in
+    let db : d ≡ b.me = same_is d b.me e.0 in
+    let ca : c ≡ a.me = same_is c a.me e.1 in
+    let P : UniqueAddress → Type 0 = λ x. IsPrefix (taken_by x a.me J) (sent_by a.me x J) in
+    let Q : UniqueAddress → Type 0 = λ x. IsPrefix (taken_by d x J) (sent_by x d J) in
+    let R : List (ℕ × SysMsg) → Type 0 = λ xs. IsPrefix xs (sent_by a.me b.me J) in
+    let S : List (ℕ × SysMsg) → Type 0 = λ xs. IsPrefix (taken_by b.me a.me w.journal ++ (n, m) ∷ []) xs in
+    subst Q (sym ca) (subst P (sym db) (subst R (sym (taken_here b.me a.me n m w.journal)) (subst S (sym (sent_not b.me a.me a.me b.me n m w.journal)) prefix))))
+    (λ t.
+    let R : List (ℕ × SysMsg) → Type 0 = λ xs. IsPrefix xs (sent_by c d J) in
+    let S : List (ℕ × SysMsg) → Type 0 = λ xs. IsPrefix (taken_by d c w.journal) xs in
+    subst R (sym (taken_not b.me a.me d c n m w.journal t)) (subst S (sym (sent_not b.me a.me c d n m w.journal)) (books.proper.now c d)))) in
     let entries : List (UniqueAddress × ℕ) = with_taken a.me n b.inbound in
     let set : entries ≡ set_value (same_origin a.me) b.inbound (n + 1) = ap (λ (t : Bool). cond t (set_value (same_origin a.me) b.inbound (n + 1)) b.inbound) expected.1 in
     let after : NodeFacts J (who_in w.net) (record b { inbound = with_taken a.me n b.inbound }) = record {
-        sends = λ c. (let S : List (ℕ × SysMsg) → Type 0 = SendsRight (sending_in b.peers c) in subst S (sym (sent_not b.me a.me b.me c n m w.journal)) (facts.sends c));
-        takes = λ c. (let E : List (UniqueAddress × ℕ) → Type 0 = λ es. TakesRight (expected_of c es) (taken_by b.me c J) in subst E (sym set) (by_test (same_origin c a.me)
+      sends = λ c. (let S : List (ℕ × SysMsg) → Type 0 = SendsRight (sending_in b.peers c) in subst S (sym (sent_not b.me a.me b.me c n m w.journal)) (facts.sends c));
+      takes = λ c. (let E : List (UniqueAddress × ℕ) → Type 0 = λ es. TakesRight (expected_of c es) (taken_by b.me c J) in subst E (sym set) (by_test (same_origin c a.me)
           (λ t.
-            let ca : c ≡ a.me = same_is c a.me t in
-            let P : UniqueAddress → Type 0 = λ x. TakesRight (lookup (same_origin x) (set_value (same_origin a.me) b.inbound (n + 1))) (taken_by b.me x J) in
-            let Q : Option ℕ → Type 0 = λ o. TakesRight o (taken_by b.me a.me J) in
-            let R : List (ℕ × SysMsg) → Type 0 = λ xs. n + 1 ≡ length xs + 1 in
-            subst P (sym ca) (subst Q (sym (lookup_here a.me b.inbound (n + 1) n expected.0)) (subst R (sym (taken_here b.me a.me n m w.journal)) (let l : length (taken_by b.me a.me w.journal ++ (n, m) ∷ []) ≡ length (taken_by b.me a.me w.journal) + 1 = length_push _ _ in omega arith))))
+          let ca : c ≡ a.me = same_is c a.me t in
+          let P : UniqueAddress → Type 0 = λ x. TakesRight (lookup (same_origin x) (set_value (same_origin a.me) b.inbound (n + 1))) (taken_by b.me x J) in
+          let Q : Option ℕ → Type 0 = λ o. TakesRight o (taken_by b.me a.me J) in
+          let R : List (ℕ × SysMsg) → Type 0 = λ xs. n + 1 ≡ length xs + 1 in
+          subst P (sym ca) (subst Q (sym (lookup_here a.me b.inbound (n + 1) n expected.0)) (subst R (sym (taken_here b.me a.me n m w.journal)) (let l : length (taken_by b.me a.me w.journal ++ (n, m) ∷ []) ≡ length (taken_by b.me a.me w.journal) + 1 = length_push _ _ in omega arith))))
           (λ t.
-            let no : c ≡ a.me → ⊥ = λ e. (let s : same_origin c a.me ≡ true = ap (λ x. same_origin x a.me) e ∙ same_self a.me in cc) in
-            let Q : Option ℕ → Type 0 = λ o. TakesRight o (taken_by b.me c J) in
-            let R : List (ℕ × SysMsg) → Type 0 = TakesRight (lookup (same_origin c) b.inbound) in
-            subst Q (sym (lookup_set a.me c b.inbound (n + 1) no)) (subst R (sym (taken_not b.me a.me b.me c n m w.journal (ap (λ (y : Bool). same_origin b.me b.me && y) t ∙ ap (λ (x : Bool). x && false) (same_self b.me)))) (facts.takes c)))));
-        knows = facts.knows;
-      } in
+          let no : c ≡ a.me → ⊥ = λ e. (let s : same_origin c a.me ≡ true = ap (λ x. same_origin x a.me) e ∙ same_self a.me in cc) in
+          let Q : Option ℕ → Type 0 = λ o. TakesRight o (taken_by b.me c J) in
+          let R : List (ℕ × SysMsg) → Type 0 = TakesRight (lookup (same_origin c) b.inbound) in
+          subst Q (sym (lookup_set a.me c b.inbound (n + 1) no)) (subst R (sym (taken_not b.me a.me b.me c n m w.journal (ap (λ (y : Bool). same_origin b.me b.me && y) t ∙ ap (λ (x : Bool). x && false) (same_self b.me)))) (facts.takes c)))));
+      knows = facts.knows;
+    } in
     let f : NodeState → NodeState = λ x. record x { inbound = with_taken a.me n x.inbound } in
     let v : World = tells (line ∷ []) (on_net (in_node b.me.uid f) w) in
     let first : Goes w v = record {
-        books = node_changes w b.me.uid b f (line ∷ []) books to (λ x. refl) (refl, tt) proper after;
-        who = who_same b.me.uid f (λ x. refl) w.net;
-        more = line ∷ [];
-        journal = refl;
-      } in
+      books = node_changes w b.me.uid b f (line ∷ []) books to (λ x. refl) (refl, tt) proper after;
+      who = who_same b.me.uid f (λ x. refl) w.net;
+      more = line ∷ [];
+      journal = refl;
+    } in
     goes_on w v _ first (puts_sent v b.me.uid a.me.uid (Ack n ∷ []) first.books (λ c d i j. (tt, tt)))
 
 -- ---- a parcel arrives
@@ -206,7 +206,7 @@ arrive_all_goes from to a b (p ∷ ps) w books f t sent =
     let P : List Line → Type 0 = λ j. Each (ParcelIsSent (sent_by a b j)) ps in
     let Q : List (ℕ × SysMsg) → Type 0 = λ s. Each (ParcelIsSent s) ps in
     let more : Each (ParcelIsSent (sent_by a b v.journal)) ps =
-        subst P (sym first.journal) (subst Q (sym (sent_append a b w.journal first.more)) (each_weaker _ _ (parcel_more (sent_by a b w.journal) (sent_by a b first.more)) ps sent.1)) in
+    subst P (sym first.journal) (subst Q (sym (sent_append a b w.journal first.more)) (each_weaker _ _ (parcel_more (sent_by a b w.journal) (sent_by a b first.more)) ps sent.1)) in
     goes_on w v _ first (arrive_all_goes from to a b ps v first.books (first.who from ∙ f) (first.who to ∙ t) more)
 
 delivers_goes : (k : ℕ) (w : World) → Books w → Goes w (delivers k w)
@@ -218,8 +218,11 @@ delivers_goes k w books = by (slice_get w.net.links k) refl
         let f : LinkFacts w.journal (who_in w.net) l = each_get _ w.net.links k l books.links e in
         let v : World = on_net (λ net. record net { links = slice_set net.links k (record l { values = [] }) }) w in
         let first : Goes w v = record {
-            books = links_change w _ books (each_set _ w.net.links k (record l { values = [] }) books.links (record { a = f.a; b = f.b; from = f.from; to = f.to; sent = tt }));
-            who = λ u. refl; more = []; journal = sym (append-nil w.journal) } in
+          books = links_change w _ books (each_set _ w.net.links k (record l { values = [] }) books.links (record { a = f.a; b = f.b; from = f.from; to = f.to; sent = tt }));
+          who = λ u. refl;
+          more = [];
+          journal = sym (append-nil w.journal);
+        } in
         goes_on w v _ first (arrive_all_goes l.from l.to f.a f.b l.values v first.books f.from f.to f.sent)
 
 delivers_first_goes : (n : ℕ) (w : World) → Books w → Goes w (delivers_first n w)

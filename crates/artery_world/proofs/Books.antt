@@ -137,9 +137,9 @@ module _ (uid : ℕ) (f : NodeState → NodeState) (keeps : (n : NodeState) → 
   pub who_same : (net : Net) (u : ℕ) → who_in (in_node uid f net) u ≡ who_in net u
   who_same net u = by_test (uid == u)
       (λ e.
-        let is : uid ≡ u = grind (arith, nat_tests) in
-        let P : ℕ → Type 0 = λ v. who_in (in_node uid f net) v ≡ who_in net v in
-        subst P is (ap (option_map (λ n. n.me)) (node_changed net) ∙ me_same (node_of uid net)))
+      let is : uid ≡ u = grind (arith, nat_tests) in
+      let P : ℕ → Type 0 = λ v. who_in (in_node uid f net) v ≡ who_in net v in
+      subst P is (ap (option_map (λ n. n.me)) (node_changed net) ∙ me_same (node_of uid net)))
       (λ e. ap (option_map (λ n. n.me)) (node_other u net e))
 
   pub uids_same : (live : List NodeState) → uids (change_first (has_uid uid) f live) ≡ uids live
@@ -163,10 +163,13 @@ parcels_more sent more (Ack n) h = tt
 
 pub link_facts_more : (journal lines : List Line) (who who' : ℕ → Option UniqueAddress) → ((u : ℕ) → who' u ≡ who u) → (l : LinkState) → LinkFacts journal who l → LinkFacts (journal ++ lines) who' l
 link_facts_more journal lines who who' same l f = record {
-  a = f.a; b = f.b; from = same l.from ∙ f.from; to = same l.to ∙ f.to;
+  a = f.a;
+  b = f.b;
+  from = same l.from ∙ f.from;
+  to = same l.to ∙ f.to;
   sent =
-    let P : List (ℕ × SysMsg) → Type 0 = λ s. Each (ParcelIsSent s) l.values in
-    subst P (sym (sent_append f.a f.b journal lines)) (each_weaker _ _ (parcels_more (sent_by f.a f.b journal) (sent_by f.a f.b lines)) l.values f.sent);
+      let P : List (ℕ × SysMsg) → Type 0 = λ s. Each (ParcelIsSent s) l.values in
+      subst P (sym (sent_append f.a f.b journal lines)) (each_weaker _ _ (parcels_more (sent_by f.a f.b journal) (sent_by f.a f.b lines)) l.values f.sent);
 }
 
 -- who lives under a UID has it
@@ -180,7 +183,7 @@ pub node_changes : (w : World) (uid : ℕ) (x : NodeState) (f : NodeState → No
 node_changes w uid x f lines books at keeps by proper facts = record {
   proper = proper;
   nodes = λ u y h. by_test (uid == u)
-    (λ e.
+      (λ e.
       let is : uid ≡ u = grind (arith, nat_tests) in
       let found : node_of uid (in_node uid f w.net) ≡ Some (f x) = node_changed uid f keeps w.net ∙ ap (option_map f) at in
       let P : ℕ → Type 0 = λ v. node_of v (in_node uid f w.net) ≡ Some (f x) in
@@ -188,7 +191,7 @@ node_changes w uid x f lines books at keeps by proper facts = record {
       let same : f x ≡ y = cc in
       let Q : NodeState → Type 0 = NodeFacts (w.journal ++ lines) (who_in (in_node uid f w.net)) in
       subst Q same (node_facts_same _ _ _ (who_same uid f keeps w.net) (f x) facts))
-    (λ e.
+      (λ e.
       let before : node_of u w.net ≡ Some y = sym (node_other uid f keeps u w.net e) ∙ h in
       let old : NodeFacts w.journal (who_in w.net) y = books.nodes u y before in
       let apart : y.me ≡ x.me → ⊥ = λ same. (let yu : y.me.uid ≡ u = node_has u w.net y before in let xu : x.me.uid ≡ uid = node_has uid w.net x at in let su : y.me.uid ≡ x.me.uid = ap (λ (a : UniqueAddress). a.uid) same in grind (arith, nat_tests)) in
@@ -198,11 +201,11 @@ node_changes w uid x f lines books at keeps by proper facts = record {
         knows = λ b k. who_same uid f keeps w.net b.uid ∙ old.knows b k;
       });
   strangers = λ a no b.
-    let before : who_in w.net a.uid ≡ Some a → ⊥ = λ k. no (who_same uid f keeps w.net a.uid ∙ k) in
-    let xu : x.me.uid ≡ uid = node_has uid w.net x at in
-    let apart : a ≡ x.me → ⊥ = λ same. before (ap (who_in w.net) (ap (λ (c : UniqueAddress). c.uid) same ∙ xu) ∙ ap (option_map (λ n. n.me)) at ∙ ap Some (sym same)) in
-    let old : (sent_by a b w.journal ≡ []) × (taken_by a b w.journal ≡ []) = books.strangers a before b in
-    (sent_same x.me a b w.journal lines by apart ∙ old.0, taken_same x.me a b w.journal lines by apart ∙ old.1);
+      let before : who_in w.net a.uid ≡ Some a → ⊥ = λ k. no (who_same uid f keeps w.net a.uid ∙ k) in
+      let xu : x.me.uid ≡ uid = node_has uid w.net x at in
+      let apart : a ≡ x.me → ⊥ = λ same. before (ap (who_in w.net) (ap (λ (c : UniqueAddress). c.uid) same ∙ xu) ∙ ap (option_map (λ n. n.me)) at ∙ ap Some (sym same)) in
+      let old : (sent_by a b w.journal ≡ []) × (taken_by a b w.journal ≡ []) = books.strangers a before b in
+      (sent_same x.me a b w.journal lines by apart ∙ old.0, taken_same x.me a b w.journal lines by apart ∙ old.1);
   links = each_weaker _ _ (link_facts_more w.journal lines (who_in w.net) (who_in (in_node uid f w.net)) (who_same uid f keeps w.net)) w.net.links books.links;
   distinct = let P : List ℕ → Type 0 = AreDistinct in subst P (sym (uids_same uid f keeps w.net.live)) books.distinct;
   started = started_same uid f keeps w.net.started w.net.live books.started;

@@ -74,32 +74,32 @@ pub peer_facts : (journal journal' : List Line) (who : ℕ → Option UniqueAddr
 peer_facts journal journal' who x p address g facts at keeps others takes here known =
     let at_same : (d : Address) (q : PeerState) → is_at d (g q) ≡ is_at d q = λ d q. ap (λ (a : Address). same_address a d) (keeps q) in
     let changed : (b : UniqueAddress) → b.address ≡ address → sending_in (change_first (is_at address) g x.peers) b ≡ for_current b.uid (g p).current (g p).outbound =
-        λ b e.
-          ap (λ (a : Address). for_peer b.uid (find (is_at a) (change_first (is_at address) g x.peers))) e
-          ∙ ap (for_peer b.uid) (find_same (is_at address) g (at_same address) x.peers ∙ ap (option_map g) at) in
+    λ b e.
+    ap (λ (a : Address). for_peer b.uid (find (is_at a) (change_first (is_at address) g x.peers))) e
+    ∙ ap (for_peer b.uid) (find_same (is_at address) g (at_same address) x.peers ∙ ap (option_map g) at) in
     let unchanged : (b : UniqueAddress) → (b.address ≡ address → ⊥) → sending_in (change_first (is_at address) g x.peers) b ≡ sending_in x.peers b =
-        λ b n. ap (for_peer b.uid) (find_other (is_at address) (is_at b.address) g
-          (λ q e. by_test (is_at b.address q) (λ h. absurd (n (sym (address_is q.address b.address h) ∙ address_is q.address address e))) (λ h. h))
-          (at_same b.address) x.peers) in
+    λ b n. ap (for_peer b.uid) (find_other (is_at address) (is_at b.address) g
+    (λ q e. by_test (is_at b.address q) (λ h. absurd (n (sym (address_is q.address b.address h) ∙ address_is q.address address e))) (λ h. h))
+    (at_same b.address) x.peers) in
     let is_here : (b : UniqueAddress) → b.address ≡ address → unique_at address b.uid ≡ b = λ b e. ap (λ (a : Address). unique_at a b.uid) (sym e) in
     record {
       sends = λ b. by_test (same_address b.address address)
-        (λ t.
+          (λ t.
           let e : b.address ≡ address = address_is b.address address t in
           let P : Option Kept → Type 0 = λ o. SendsRight o (sent_by x.me b journal') in
           let Q : UniqueAddress → Type 0 = λ c. SendsRight (for_current b.uid (g p).current (g p).outbound) (sent_by x.me c journal') in
           subst P (sym (changed b e)) (subst Q (is_here b e) (here b.uid)))
-        (λ t.
+          (λ t.
           let n : b.address ≡ address → ⊥ = λ e. (let s : same_address b.address address ≡ true = ap (λ a. same_address a address) e ∙ address_self address in cc) in
           let P : Option Kept → Type 0 = λ o. SendsRight o (sent_by x.me b journal') in
           let Q : List (ℕ × SysMsg) → Type 0 = SendsRight (sending_in x.peers b) in
           subst P (sym (unchanged b n)) (subst Q (sym (others b n)) (facts.sends b)));
       takes = λ a. (let Q : List (ℕ × SysMsg) → Type 0 = TakesRight (expected_of a x.inbound) in subst Q (sym (takes a)) (facts.takes a));
       knows = λ b k. by_test (same_address b.address address)
-        (λ t.
+          (λ t.
           let e : b.address ≡ address = address_is b.address address t in
           known b.uid (sym (ap is_some (changed b e)) ∙ k) ∙ ap Some (is_here b e))
-        (λ t.
+          (λ t.
           let n : b.address ≡ address → ⊥ = λ e. (let s : same_address b.address address ≡ true = ap (λ a. same_address a address) e ∙ address_self address in cc) in
           facts.knows b (sym (ap is_some (unchanged b n)) ∙ k));
     }
@@ -138,19 +138,19 @@ pub outbound_changes : (w : World) (uid : ℕ) (address : Address) (f : Kept →
     → Goes w (on_net (in_peer uid address (with_outbound f)) w)
 outbound_changes w uid address f books same = by_option (node_of uid w.net)
     (λ e.
-      let P : List NodeState → Type 0 = λ live. Goes w (on_net (λ net. record net { live = live }) w) in
-      subst P (sym (change_none (has_uid uid) (λ n. record n { peers = change_first (is_at address) (with_outbound f) n.peers }) w.net.live e)) (stays w books))
+    let P : List NodeState → Type 0 = λ live. Goes w (on_net (λ net. record net { live = live }) w) in
+    subst P (sym (change_none (has_uid uid) (λ n. record n { peers = change_first (is_at address) (with_outbound f) n.peers }) w.net.live e)) (stays w books))
     (λ x at. by_option (find (is_at address) x.peers)
-      (λ e.
-        let facts : NodeFacts w.journal (who_in w.net) x = books.nodes uid x at in
-        let P : List PeerState → Type 0 = λ peers. NodeFacts w.journal (who_in w.net) (record x { peers = peers }) in
-        let after : NodeFacts w.journal (who_in w.net) (record x { peers = change_first (is_at address) (with_outbound f) x.peers }) = subst P (sym (change_none (is_at address) (with_outbound f) x.peers e)) facts in
-        goes x at after)
-      (λ p e.
-        let facts : NodeFacts w.journal (who_in w.net) x = books.nodes uid x at in
-        goes x at (peer_facts w.journal w.journal (who_in w.net) x p address (with_outbound f) facts e (λ q. refl) (λ b n. refl) (λ a. refl)
-          (λ u. current_sends u p.current p.outbound (f p.outbound) _ (λ v c. same p (peer_found uid address w.net x at ∙ e) v c _) (here_sends w.journal (who_in w.net) x p address facts e u))
-          (λ u k. here_known w.journal (who_in w.net) x p address facts e u (sym (current_known u p.current p.outbound (f p.outbound)) ∙ k)))))
+    (λ e.
+    let facts : NodeFacts w.journal (who_in w.net) x = books.nodes uid x at in
+    let P : List PeerState → Type 0 = λ peers. NodeFacts w.journal (who_in w.net) (record x { peers = peers }) in
+    let after : NodeFacts w.journal (who_in w.net) (record x { peers = change_first (is_at address) (with_outbound f) x.peers }) = subst P (sym (change_none (is_at address) (with_outbound f) x.peers e)) facts in
+    goes x at after)
+    (λ p e.
+    let facts : NodeFacts w.journal (who_in w.net) x = books.nodes uid x at in
+    goes x at (peer_facts w.journal w.journal (who_in w.net) x p address (with_outbound f) facts e (λ q. refl) (λ b n. refl) (λ a. refl)
+    (λ u. current_sends u p.current p.outbound (f p.outbound) _ (λ v c. same p (peer_found uid address w.net x at ∙ e) v c _) (here_sends w.journal (who_in w.net) x p address facts e u))
+    (λ u k. here_known w.journal (who_in w.net) x p address facts e u (sym (current_known u p.current p.outbound (f p.outbound)) ∙ k)))))
   where
     goes : (x : NodeState) → node_of uid w.net ≡ Some x → NodeFacts w.journal (who_in w.net) (record x { peers = change_first (is_at address) (with_outbound f) x.peers }) → Goes w (on_net (in_peer uid address (with_outbound f)) w)
     goes x at after = record {
@@ -175,11 +175,16 @@ pub puts_sent : (w : World) (from to : ℕ) (values : List Parcel) → Books w
     → Goes w (on_net (puts from to values) w)
 puts_sent w from to values books sent = record {
   books = links_change w _ books (each_changed (LinkFacts w.journal (who_in w.net)) (joins from to) (λ l. record l { values = l.values ++ values })
-    (λ l j f.
+      (λ l j f.
       let ends : (l.from ≡ from) × (l.to ≡ to) = joins_are from to l j in
-      record { a = f.a; b = f.b; from = f.from; to = f.to;
-        sent = each_append _ l.values values f.sent (sent f.a f.b (ap (who_in w.net) (sym ends.0) ∙ f.from) (ap (who_in w.net) (sym ends.1) ∙ f.to)) })
-    w.net.links books.links);
+      record {
+        a = f.a;
+        b = f.b;
+        from = f.from;
+        to = f.to;
+        sent = each_append _ l.values values f.sent (sent f.a f.b (ap (who_in w.net) (sym ends.0) ∙ f.from) (ap (who_in w.net) (sym ends.1) ∙ f.to));
+      })
+      w.net.links books.links);
   who = λ u. refl;
   more = [];
   journal = sym (append-nil w.journal);
@@ -194,23 +199,23 @@ pumps_goes w uid address books = by_peer (peer_of uid address w.net) refl
     over p at other c =
         let P : Net → Type 0 = λ net. Goes w (record { net = net; journal = w.journal }) in
         on_cond P (has_link uid other w.net) _ w.net
-          (λ linked.
-            let v : World = on_net (in_peer uid address (with_outbound all_written)) w in
-            let first : Goes w v = outbound_changes w uid address all_written books (λ q e u k sent s. sends_written q.outbound sent s) in
-            goes_on w v _ first (puts_sent v uid other (parcels_of p.outbound) first.books (λ a b from to. by_option (node_of uid w.net)
-              (λ none. (let no : who_in w.net uid ≡ None = ap (option_map (λ (n : NodeState). n.me)) none in let some : who_in w.net uid ≡ Some a = sym (first.who uid) ∙ from in absurd (let bad : None ≡ Some a = sym no ∙ some in cc)))
-              (λ x node.
-                let facts : NodeFacts w.journal (who_in w.net) x = books.nodes uid x node in
-                let found : find (is_at address) x.peers ≡ Some p = sym (peer_found uid address w.net x node) ∙ at in
-                let is_a : a ≡ x.me = (let one : Some a ≡ Some x.me = sym from ∙ first.who uid ∙ ap (option_map (λ (n : NodeState). n.me)) node in cc) in
-                let here : for_current other p.current p.outbound ≡ Some p.outbound = ap (λ c. for_current other c p.outbound) c ∙ ap (λ t. cond t (Some p.outbound) None) (let t : (other == other) ≡ true = grind (arith, nat_tests) in t) in
-                let is_b : b ≡ unique_at address other = (let one : Some b ≡ Some (unique_at address other) = sym to ∙ first.who other ∙ here_known w.journal (who_in w.net) x p address facts found other (ap is_some here) in cc) in
-                let Q : Option Kept → Type 0 = λ o. SendsRight o (sent_by x.me (unique_at address other) w.journal) in
-                let sends : Sends p.outbound (sent_by x.me (unique_at address other) w.journal) = subst Q here (here_sends w.journal (who_in w.net) x p address facts found other) in
-                let R : UniqueAddress → Type 0 = λ d. Each (ParcelIsSent (sent_by d b w.journal)) (parcels_of p.outbound) in
-                let S : UniqueAddress → Type 0 = λ d. Each (ParcelIsSent (sent_by x.me d w.journal)) (parcels_of p.outbound) in
-                subst R (sym is_a) (subst S (sym is_b) (parcels_sent p.outbound _ sends))))))
-          (λ _. stays w books)
+        (λ linked.
+        let v : World = on_net (in_peer uid address (with_outbound all_written)) w in
+        let first : Goes w v = outbound_changes w uid address all_written books (λ q e u k sent s. sends_written q.outbound sent s) in
+        goes_on w v _ first (puts_sent v uid other (parcels_of p.outbound) first.books (λ a b from to. by_option (node_of uid w.net)
+        (λ none. (let no : who_in w.net uid ≡ None = ap (option_map (λ (n : NodeState). n.me)) none in let some : who_in w.net uid ≡ Some a = sym (first.who uid) ∙ from in absurd (let bad : None ≡ Some a = sym no ∙ some in cc)))
+        (λ x node.
+        let facts : NodeFacts w.journal (who_in w.net) x = books.nodes uid x node in
+        let found : find (is_at address) x.peers ≡ Some p = sym (peer_found uid address w.net x node) ∙ at in
+        let is_a : a ≡ x.me = (let one : Some a ≡ Some x.me = sym from ∙ first.who uid ∙ ap (option_map (λ (n : NodeState). n.me)) node in cc) in
+        let here : for_current other p.current p.outbound ≡ Some p.outbound = ap (λ c. for_current other c p.outbound) c ∙ ap (λ t. cond t (Some p.outbound) None) (let t : (other == other) ≡ true = grind (arith, nat_tests) in t) in
+        let is_b : b ≡ unique_at address other = (let one : Some b ≡ Some (unique_at address other) = sym to ∙ first.who other ∙ here_known w.journal (who_in w.net) x p address facts found other (ap is_some here) in cc) in
+        let Q : Option Kept → Type 0 = λ o. SendsRight o (sent_by x.me (unique_at address other) w.journal) in
+        let sends : Sends p.outbound (sent_by x.me (unique_at address other) w.journal) = subst Q here (here_sends w.journal (who_in w.net) x p address facts found other) in
+        let R : UniqueAddress → Type 0 = λ d. Each (ParcelIsSent (sent_by d b w.journal)) (parcels_of p.outbound) in
+        let S : UniqueAddress → Type 0 = λ d. Each (ParcelIsSent (sent_by x.me d w.journal)) (parcels_of p.outbound) in
+        subst R (sym is_a) (subst S (sym is_b) (parcels_sent p.outbound _ sends))))))
+        (λ _. stays w books)
 
     by_current : (p : PeerState) → peer_of uid address w.net ≡ Some p → (c : Option ℕ) → p.current ≡ c → Goes w (on_net (pumps_current uid address c p.outbound) w)
     by_current p at None e = stays w books

@@ -46,8 +46,8 @@ pub proper_push : (journal : List Line) (line : Line) → IsLawful journal
     → Proper (journal ++ line ∷ [])
 proper_push journal line lawful now = record {
   lawful = λ k a b.
-    let P : List Line → Type 0 = λ ls. IsPrefix (taken_by b a ls) (sent_by a b ls) in
-    elim (split_take k journal line) [ inl e ↦ subst P (sym e) (lawful k a b) | inr e ↦ subst P (sym e) (now a b) ];
+      let P : List Line → Type 0 = λ ls. IsPrefix (taken_by b a ls) (sent_by a b ls) in
+      elim (split_take k journal line) [ inl e ↦ subst P (sym e) (lawful k a b) | inr e ↦ subst P (sym e) (now a b) ];
   now = now;
 }
 

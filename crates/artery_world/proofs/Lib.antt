@@ -5,3 +5,4 @@ pub mod Books
 pub mod Goes
 pub mod Meets
 pub mod Arrivals
+pub mod Runs

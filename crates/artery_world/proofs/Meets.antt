@@ -67,13 +67,13 @@ lookup_new t (d ∷ es) e h = by (t d.0) refl h (lookup_new t es e)
 takes_after : (a other : UniqueAddress) (entries : List (UniqueAddress × ℕ)) (taken : List (ℕ × SysMsg)) (o : Opened) → TakesRight (expected_of a entries) taken → TakesRight (expected_of a (entries_after o other entries)) taken
 takes_after a other entries taken NewlyOpened h = by_option (expected_of a entries)
     (λ e.
-      let P : Option ℕ → Type 0 = λ o. TakesRight o taken in
-      let nothing : taken ≡ [] = subst P e h in
-      subst P (sym (lookup_new (same_origin a) entries (other, 1) e))
-        (on_cond P (same_origin a other) (Some 1) None (λ _. (let l : length taken ≡ 0 = ap length nothing in omega arith)) (λ _. nothing)))
+    let P : Option ℕ → Type 0 = λ o. TakesRight o taken in
+    let nothing : taken ≡ [] = subst P e h in
+    subst P (sym (lookup_new (same_origin a) entries (other, 1) e))
+    (on_cond P (same_origin a other) (Some 1) None (λ _. (let l : length taken ≡ 0 = ap length nothing in omega arith)) (λ _. nothing)))
     (λ v e.
-      let P : Option ℕ → Type 0 = λ o. TakesRight o taken in
-      subst P (sym (lookup_kept (same_origin a) entries (other, 1) v e)) (subst P e h))
+    let P : Option ℕ → Type 0 = λ o. TakesRight o taken in
+    subst P (sym (lookup_kept (same_origin a) entries (other, 1) v e)) (subst P e h))
 takes_after a other entries taken Known h = h
 takes_after a other entries taken OriginsFull h = h
 
@@ -130,30 +130,30 @@ learns_new w x p other books at found fresh lives =
     let quiet : Each IsQuiet lines = (tt, lines_quiet x.me other 1 p.outbound.messages) in
     let by : Each (IsBy x.me) lines = (refl, lines_by x.me other 1 p.outbound.messages) in
     let nothing : (u : ℕ) → sent_by x.me (unique_at other.address u) w.journal ≡ [] = λ u.
-        (let P : Option ℕ → Type 0 = λ c. SendsRight (for_current u c p.outbound) (sent_by x.me (unique_at other.address u) w.journal) in
-        subst P fresh (here_sends w.journal (who_in w.net) x p other.address facts found u)) in
+    (let P : Option ℕ → Type 0 = λ c. SendsRight (for_current u c p.outbound) (sent_by x.me (unique_at other.address u) w.journal) in
+    subst P fresh (here_sends w.journal (who_in w.net) x p other.address facts found u)) in
     let after : NodeFacts (w.journal ++ lines) (who_in w.net) (record x { peers = change_peers x.peers }) =
-        peer_facts w.journal (w.journal ++ lines) (who_in w.net) x p other.address (learnt_peer other.uid) facts found (λ q. refl)
-          (λ b n. sent_append x.me b w.journal lines ∙ ap (λ rest. sent_by x.me b w.journal ++ rest) (lines_other x.me b other 1 p.outbound.messages (λ e. n (ap (λ (c : UniqueAddress). c.address) e))) ∙ append-nil _)
-          (λ a. taken_append x.me a w.journal lines ∙ ap (λ rest. taken_by x.me a w.journal ++ rest) (lines_taken x.me a x.me other 1 p.outbound.messages) ∙ append-nil _)
-          (λ u. on_cond (λ o. SendsRight o (sent_by x.me (unique_at other.address u) (w.journal ++ lines))) (other.uid == u) (Some (kept_learnt p.outbound)) None
-            (λ t.
-              let is : unique_at other.address u ≡ other = ap (λ (v : ℕ). unique_at other.address v) (let e : u ≡ other.uid = grind (arith, nat_tests) in e) in
-              let sent : sent_by x.me (unique_at other.address u) (w.journal ++ lines) ≡ pairs_from 1 p.outbound.messages =
-                  sent_append x.me (unique_at other.address u) w.journal lines
-                  ∙ ap (λ front. front ++ sent_by x.me (unique_at other.address u) lines) (nothing u)
-                  ∙ ap (λ b. sent_by x.me b lines) is
-                  ∙ lines_sent x.me other 1 p.outbound.messages in
-              let P : List (ℕ × SysMsg) → Type 0 = Sends (kept_learnt p.outbound) in
-              subst P (sym sent) (sends_nothing_first p.outbound))
-            (λ t.
-              let apart : unique_at other.address u ≡ other → ⊥ = λ e. (let v : u ≡ other.uid = ap (λ (c : UniqueAddress). c.uid) e in grind (arith, nat_tests)) in
-              sent_append x.me (unique_at other.address u) w.journal lines
-              ∙ ap (λ front. front ++ sent_by x.me (unique_at other.address u) lines) (nothing u)
-              ∙ lines_other x.me (unique_at other.address u) other 1 p.outbound.messages apart))
-          (λ u k. by_test (other.uid == u)
-            (λ t. let e : other.uid ≡ u = grind (arith, nat_tests) in (let P : ℕ → Type 0 = λ v. who_in w.net v ≡ Some (unique_at other.address v) in subst P e lives))
-            (λ t. absurd (let bad : is_some (cond false (Some (kept_learnt p.outbound)) None) ≡ true = ap (λ (c : Bool). is_some (cond c (Some (kept_learnt p.outbound)) None)) (sym t) ∙ k in (let no : false ≡ true = bad in cc)))) in
+    peer_facts w.journal (w.journal ++ lines) (who_in w.net) x p other.address (learnt_peer other.uid) facts found (λ q. refl)
+    (λ b n. sent_append x.me b w.journal lines ∙ ap (λ rest. sent_by x.me b w.journal ++ rest) (lines_other x.me b other 1 p.outbound.messages (λ e. n (ap (λ (c : UniqueAddress). c.address) e))) ∙ append-nil _)
+    (λ a. taken_append x.me a w.journal lines ∙ ap (λ rest. taken_by x.me a w.journal ++ rest) (lines_taken x.me a x.me other 1 p.outbound.messages) ∙ append-nil _)
+    (λ u. on_cond (λ o. SendsRight o (sent_by x.me (unique_at other.address u) (w.journal ++ lines))) (other.uid == u) (Some (kept_learnt p.outbound)) None
+    (λ t.
+    let is : unique_at other.address u ≡ other = ap (λ (v : ℕ). unique_at other.address v) (let e : u ≡ other.uid = grind (arith, nat_tests) in e) in
+    let sent : sent_by x.me (unique_at other.address u) (w.journal ++ lines) ≡ pairs_from 1 p.outbound.messages =
+    sent_append x.me (unique_at other.address u) w.journal lines
+    ∙ ap (λ front. front ++ sent_by x.me (unique_at other.address u) lines) (nothing u)
+    ∙ ap (λ b. sent_by x.me b lines) is
+    ∙ lines_sent x.me other 1 p.outbound.messages in
+    let P : List (ℕ × SysMsg) → Type 0 = Sends (kept_learnt p.outbound) in
+    subst P (sym sent) (sends_nothing_first p.outbound))
+    (λ t.
+    let apart : unique_at other.address u ≡ other → ⊥ = λ e. (let v : u ≡ other.uid = ap (λ (c : UniqueAddress). c.uid) e in grind (arith, nat_tests)) in
+    sent_append x.me (unique_at other.address u) w.journal lines
+    ∙ ap (λ front. front ++ sent_by x.me (unique_at other.address u) lines) (nothing u)
+    ∙ lines_other x.me (unique_at other.address u) other 1 p.outbound.messages apart))
+    (λ u k. by_test (other.uid == u)
+    (λ t. let e : other.uid ≡ u = grind (arith, nat_tests) in (let P : ℕ → Type 0 = λ v. who_in w.net v ≡ Some (unique_at other.address v) in subst P e lives))
+    (λ t. absurd (let bad : is_some (cond false (Some (kept_learnt p.outbound)) None) ≡ true = ap (λ (c : Bool). is_some (cond c (Some (kept_learnt p.outbound)) None)) (sym t) ∙ k in (let no : false ≡ true = bad in cc)))) in
     record {
       books = node_changes w x.me.uid x (λ n. record n { peers = change_peers n.peers }) lines books at (λ n. refl) by (proper_quiet w.journal lines books.proper quiet) after;
       who = who_same x.me.uid (λ n. record n { peers = change_peers n.peers }) (λ n. refl) w.net;
@@ -185,13 +185,16 @@ links_goes : (w : World) (me other : UniqueAddress) → Books w → who_in w.net
 links_goes w me other books from to =
     let P : Net → Type 0 = λ net. Goes w (record { net = net; journal = w.journal }) in
     on_cond P (has_link me.uid other.uid w.net) w.net _ (λ _. stays w books) (λ _.
-      let v : World = on_net (λ net. record net { links = net.links ++ new_link me.uid other.uid ∷ [] }) w in
-      let first : Goes w v = record {
-          books = links_change w (w.net.links ++ new_link me.uid other.uid ∷ []) books (each_append _ w.net.links _ books.links (record { a = me; b = other; from = from; to = to; sent = tt }, tt));
-          who = λ u. refl; more = []; journal = sym (append-nil w.journal) } in
-      goes_on w v _ first (pumps_goes v me.uid other.address first.books))
+    let v : World = on_net (λ net. record net { links = net.links ++ new_link me.uid other.uid ∷ [] }) w in
+    let first : Goes w v = record {
+      books = links_change w (w.net.links ++ new_link me.uid other.uid ∷ []) books (each_append _ w.net.links _ books.links (record { a = me; b = other; from = from; to = to; sent = tt }, tt));
+      who = λ u. refl;
+      more = [];
+      journal = sym (append-nil w.journal);
+    } in
+    goes_on w v _ first (pumps_goes v me.uid other.address first.books))
 
-who_node : (net : Net) (me : UniqueAddress) → who_in net me.uid ≡ Some me → (x : NodeState) × (node_of me.uid net ≡ Some x) × (x.me ≡ me)
+pub who_node : (net : Net) (me : UniqueAddress) → who_in net me.uid ≡ Some me → (x : NodeState) × (node_of me.uid net ≡ Some x) × (x.me ≡ me)
 who_node net me h = by (node_of me.uid net) refl
   where
     by : (o : Option NodeState) → node_of me.uid net ≡ o → (x : NodeState) × (node_of me.uid net ≡ Some x) × (x.me ≡ me)
@@ -207,9 +210,9 @@ meets_goes w me other books from to =
     let y = who_node v.net me (first.who me.uid ∙ from) in
     let u : World = learns me other (peer_of me.uid other.address v.net) v in
     let second : Goes v u =
-        (let P : UniqueAddress → Type 0 = λ a. node_of a.uid v.net ≡ Some y.0 in
-        let Q : UniqueAddress → Type 0 = λ a. Goes v (learns a other (peer_of a.uid other.address v.net) v) in
-        subst Q y.2 (learns_goes v y.0 other first.books (subst P (sym y.2) y.1) (first.who other.uid ∙ to))) in
+    (let P : UniqueAddress → Type 0 = λ a. node_of a.uid v.net ≡ Some y.0 in
+    let Q : UniqueAddress → Type 0 = λ a. Goes v (learns a other (peer_of a.uid other.address v.net) v) in
+    subst Q y.2 (learns_goes v y.0 other first.books (subst P (sym y.2) y.1) (first.who other.uid ∙ to))) in
     let third : Goes u (on_net (links_up me.uid other) u) = links_goes u me other second.books (second.who me.uid ∙ first.who me.uid ∙ from) (second.who other.uid ∙ first.who other.uid ∙ to) in
     goes_on w v _ first (goes_on v u _ second third)
 

@@ -50,16 +50,16 @@ pub sends_acked : (k : Kept) (n : ℕ) (sent : List Pair) → Sends k sent → S
 sends_acked k n sent s =
     let P : Kept → Type 0 = λ v. Sends v sent in
     on_cond P (nat_lt (given k) n) k _ (λ e. s) (λ e.
-      let within : n ≤ length s.whole = (let g : given k ≡ length s.whole = given_is k sent s in grind (arith, nat_tests)) in
-      let up : k.acknowledged + (n - k.acknowledged) ≡ max k.acknowledged n = omega arith in
-      record {
-        learnt = s.learnt;
-        whole = s.whole;
-        are = s.are;
-        acked = omega (arith, s.acked);
-        kept = ap (λ i. drop i s.whole) (sym up) ∙ sym (drop-drop (n - k.acknowledged) k.acknowledged s.whole) ∙ ap (drop (n - k.acknowledged)) s.kept;
-        after = omega (arith, s.after);
-      })
+    let within : n ≤ length s.whole = (let g : given k ≡ length s.whole = given_is k sent s in grind (arith, nat_tests)) in
+    let up : k.acknowledged + (n - k.acknowledged) ≡ max k.acknowledged n = omega arith in
+    record {
+      learnt = s.learnt;
+      whole = s.whole;
+      are = s.are;
+      acked = omega (arith, s.acked);
+      kept = ap (λ i. drop i s.whole) (sym up) ∙ sym (drop-drop (n - k.acknowledged) k.acknowledged s.whole) ∙ ap (drop (n - k.acknowledged)) s.kept;
+      after = omega (arith, s.after);
+    })
 
 pairs_push : (n : ℕ) (ms : List SysMsg) (m : SysMsg) → pairs_from n (ms ++ m ∷ []) ≡ pairs_from n ms ++ (n + length ms, m) ∷ []
 pairs_push n [] m = ap (λ (i : ℕ). (i, m) ∷ []) (sym (add-zero n))
@@ -97,9 +97,9 @@ numbered_sent : (whole : List SysMsg) (from : ℕ) (ms : List SysMsg) → ((i : 
     → Each (ParcelIsSent (pairs_from 1 whole)) (numbered (from + 1) ms)
 numbered_sent whole from [] h = tt
 numbered_sent whole from (m ∷ ms) h = (
-    (from, get_pairs 1 whole from m (ap (slice_get whole) (sym (add-zero from)) ∙ h 0 m refl) ∙ ap (λ (j : ℕ). Some (j, m)) (omega arith)),
-    numbered_sent whole (from + 1) ms (λ i x e. ap (slice_get whole) (omega arith) ∙ h (suc i) x e),
-  )
+  (from, get_pairs 1 whole from m (ap (slice_get whole) (sym (add-zero from)) ∙ h 0 m refl) ∙ ap (λ (j : ℕ). Some (j, m)) (omega arith)),
+  numbered_sent whole (from + 1) ms (λ i x e. ap (slice_get whole) (omega arith) ∙ h (suc i) x e),
+)
 
 get_drop : (xs : List SysMsg) (n i : ℕ) (x : SysMsg) → slice_get (drop n xs) i ≡ Some x → slice_get xs (n + i) ≡ Some x
 get_drop xs zero i x h = ap (slice_get xs) (omega arith) ∙ h
@@ -117,9 +117,9 @@ pub parcels_sent : (k : Kept) (sent : List Pair) → Sends k sent → Each (Parc
 parcels_sent k sent s =
     let count : ℕ = last_to_write k - k.written in
     let kept : drop (k.written - k.acknowledged) k.messages ≡ drop k.written s.whole =
-        ap (drop (k.written - k.acknowledged)) (sym s.kept) ∙ drop-drop (k.written - k.acknowledged) k.acknowledged s.whole ∙ ap (λ i. drop i s.whole) (omega (arith, s.after)) in
+    ap (drop (k.written - k.acknowledged)) (sym s.kept) ∙ drop-drop (k.written - k.acknowledged) k.acknowledged s.whole ∙ ap (λ i. drop i s.whole) (omega (arith, s.after)) in
     let P : List Pair → Type 0 = λ all. Each (ParcelIsSent all) (parcels_of k) in
     let Q : Bool → Type 0 = λ b. Each (ParcelIsSent (pairs_from 1 s.whole)) (cond b (numbered (k.written + 1) (take count (drop (k.written - k.acknowledged) k.messages))) []) in
     let R : List SysMsg → Type 0 = λ ms. Each (ParcelIsSent (pairs_from 1 s.whole)) (numbered (k.written + 1) (take count ms)) in
     subst P (sym s.are) (subst Q (sym s.learnt) (subst R (sym kept)
-      (numbered_sent s.whole k.written (take count (drop k.written s.whole)) (λ i m e. get_drop s.whole k.written i m (get_take (drop k.written s.whole) count i m e)))))
+    (numbered_sent s.whole k.written (take count (drop k.written s.whole)) (λ i m e. get_drop s.whole k.written i m (get_take (drop k.written s.whole) count i m e)))))

@@ -10,5 +10,6 @@ mod world;
 
 pub use event::{Event, Parcel, Pending};
 pub use fault::{Why, WorldFault, WorldLimit};
+pub use laws::prefix_law;
 pub use line::Line;
 pub use script::ScriptLine;
