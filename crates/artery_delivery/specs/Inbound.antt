@@ -1,5 +1,5 @@
 -- The system messages from many origins: the number expected of each, and the whole lists that they stand for.
-use Rattle.std.specs.Prelude.{◌≡◌, ℕ, ◌+◌, ◌-◌, Bool, ◌&&◌, ◌==◌, nat_lt, nat_le, List, [], ◌∷◌, ◌++◌, length, map, Option, Some, None, is_some, unwrap_or, if◌then◌else◌}
+use Rattle.std.specs.Prelude.{◌≡◌, ℕ, ◌+◌, ◌-◌, Bool, ◌&&◌, ◌==◌, nat_lt, nat_le, List, [], ◌∷◌, ◌++◌, length, map, Option, Some, None, is_some, IsSome, unwrap_or, if◌then◌else◌}
 use Rattle.std.specs.Map.{lookup, set_value}
 use Rattle.artery_base.specs.declared.message.SysMsg.{SysMsg}
 use Rattle.artery_base.specs.declared.address.UniqueAddress.{UniqueAddress}
@@ -33,6 +33,16 @@ entries_after OriginsFull origin entries = entries
 -- The entries after an origin is opened, is known already or is refused.
 abbrev pub with_origin : UniqueAddress → List (UniqueAddress × ℕ) → List (UniqueAddress × ℕ)
 with_origin origin entries = entries_after (opening origin entries) origin entries
+
+-- Whether an origin is known.
+abbrev pub IsKnown : UniqueAddress → List (UniqueAddress × ℕ) → Type 0
+IsKnown origin entries = IsSome (expected_of origin entries)
+
+-- An origin is known after it was opened or was known already.
+abbrev pub IsKnownAfter : Opened → UniqueAddress → List (UniqueAddress × ℕ) → Type 0
+IsKnownAfter NewlyOpened origin entries = IsKnown origin entries
+IsKnownAfter Known origin entries = IsKnown origin entries
+IsKnownAfter OriginsFull origin entries = Unit {0}
 
 -- The number expected of an origin. Of one that is not known, the first is expected.
 abbrev pub next_of : UniqueAddress → List (UniqueAddress × ℕ) → ℕ

@@ -7,4 +7,4 @@ mod outbound;
 
 pub use inbound::{Inbound, Opened, Take};
 pub use outbound::{Accept, Acked, Outbound};
-pub use laws::{expecting_stands, keeping_stands};
+pub use laws::{expecting_stands, keeping_stands, origins_stay_known};
