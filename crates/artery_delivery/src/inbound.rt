@@ -1,5 +1,5 @@
 //! The messages that are expected of many origins.
-ghost use Rattle.std.specs.Prelude.{◌≡◌, ℕ, List, [], OnOk, OnErr, IfOk, IsSome};
+ghost use Rattle.std.specs.Prelude.{is_some, ◌≡◌, ℕ, List, [], OnOk, OnErr, IfOk, IsSome};
 ghost use Rattle.artery_base.specs.declared.message.SysMsg.{SysMsg};
 ghost use Rattle.artery_base.specs.declared.address.UniqueAddress.{UniqueAddress};
 ghost use Rattle.artery_delivery.specs.Inbound.{expected_of, opening, with_origin, taking, with_taken, answer_to_open, opened, answer_to_take, taken, Stands};
@@ -92,6 +92,16 @@ impl Inbound {
             }
             Opened::Known => Ok(Opened::Known),
             Opened::OriginsFull => Ok(Opened::OriginsFull),
+        }
+    }
+
+    /// Whether the origin is known.
+    pub fn knows(&self, origin: &UniqueAddress) -> bool
+        ensures { result ≡ is_some (expected_of origin.now self.now) }
+    {
+        match &self.expected {
+            Some(expected) => expected.contains_key(origin),
+            None => false,
         }
     }
 
