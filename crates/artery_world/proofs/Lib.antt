@@ -6,3 +6,4 @@ pub mod Goes
 pub mod Meets
 pub mod Arrivals
 pub mod Runs
+pub mod Pumping

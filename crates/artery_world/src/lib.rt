@@ -1,10 +1,12 @@
 //! The early world.
 #![tactic(auto)]
 
+mod copies;
 mod event;
 mod fault;
 mod laws;
 mod line;
+mod peer;
 mod script;
 mod world;
 
