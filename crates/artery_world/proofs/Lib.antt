@@ -7,3 +7,4 @@ pub mod Meets
 pub mod Arrivals
 pub mod Runs
 pub mod Pumping
+pub mod Telling

@@ -10,12 +10,12 @@ use Rattle.artery_world.specs.declared.event.Parcel.{Parcel}
 use Rattle.artery_world.specs.declared.event.Parcel.TheVariants.{Numbered, Ack}
 use Rattle.artery_world.specs.Step.{numbered, last_to_write, parcels_of, all_written}
 
-drop_get : (ms : List SysMsg) (i : ℕ) (m : SysMsg) → slice_get ms i ≡ Some m → (drop i ms ≡ m ∷ drop (i + 1) ms) × (i < length ms)
+pub drop_get : (ms : List SysMsg) (i : ℕ) (m : SysMsg) → slice_get ms i ≡ Some m → (drop i ms ≡ m ∷ drop (i + 1) ms) × (i < length ms)
 drop_get [] i m h = cc
 drop_get (x ∷ ms) zero m h = ((let one : x ≡ m = cc in ap (λ y. y ∷ ms) one), omega arith)
 drop_get (x ∷ ms) (suc i) m h = (let rest = drop_get ms i m h in (rest.0 ∙ ap (λ (n : ℕ). m ∷ drop n (x ∷ ms)) (let e : suc (i + 1) ≡ suc i + 1 = omega arith in e), (let l : i < length ms = rest.1 in omega arith)))
 
-get_none : (ms : List SysMsg) (i : ℕ) → slice_get ms i ≡ None → (drop i ms ≡ []) × (length ms ≤ i)
+pub get_none : (ms : List SysMsg) (i : ℕ) → slice_get ms i ≡ None → (drop i ms ≡ []) × (length ms ≤ i)
 get_none [] zero h = (refl, omega arith)
 get_none [] (suc i) h = (refl, omega arith)
 get_none (x ∷ ms) zero h = cc

@@ -2,11 +2,15 @@ ghost use Rattle.std.specs.Prelude.{◌≡◌, ℕ, ◌≤◌, ◌+◌, ◌-◌,
 ghost use Rattle.artery_base.specs.declared.address.Address.{Address};
 ghost use Rattle.artery_delivery.specs.Outbound.{Kept, acceptance, kept_accepted, kept_acknowledged};
 ghost use Rattle.artery_world.specs.World.{PeerState, new_peer, is_at};
+ghost use Rattle.artery_world.specs.declared.line.Line.TheVariants as lines;
+ghost use Rattle.artery_world.specs.Lookup.{Grows};
 ghost use Rattle.artery_world.specs.Step.{with_outbound, learnt_peer, parcels_of, all_written, sent_lines};
 
-use crate::copies::copy_of_message;
+use crate::copies::{copy_of_message, copy_of_unique};
 use crate::event::Parcel;
-use artery_base::{Address, NoMemory, SysMsg};
+use crate::line::Line;
+use crate::lines::Lines;
+use artery_base::{Address, NoMemory, SysMsg, UniqueAddress};
 use artery_delivery::{Accept, Outbound};
 use std::alloc::Global;
 use std::collections::VecDeque;
@@ -77,6 +81,19 @@ impl Peer {
         self.current = Some(uid);
     }
 
+    /// Tells all messages that wait as sent, numbered from 1.
+    pub fn tell_waiting(
+        &self,
+        me: &UniqueAddress,
+        other: &UniqueAddress,
+        out: &mut Lines,
+    ) -> Result<(), NoMemory>
+        ensures lines { OnOk result (out.new ≡ out.old ++ sent_lines me.now other.now 1 self.now.outbound.messages) }
+        ensures grows { Grows out.old out.new }
+    {
+        tell_all(&self.outbound, me, other, out)
+    }
+
     /// Pumps all messages that may be written onto a link.
     pub fn pump(&mut self, values: &mut VecDeque<Parcel>) -> Result<(), NoMemory>
         ensures values { OnOk result (values.new.items ≡ values.old.items ++ parcels_of self.old.outbound) }
@@ -104,6 +121,47 @@ fn pump_all(outbound: &mut Outbound, values: &mut VecDeque<Parcel>) -> Result<()
     while let Some((n, message)) = outbound.pump() {
         let message = copy_of_message(message)?;
         values.push_back(Parcel::Numbered { n, message })?;
+    }
+    Ok(())
+}
+
+/// Tells that a message was sent. Without memory nothing changes.
+pub fn tell_sent(
+    me: &UniqueAddress,
+    other: &UniqueAddress,
+    n: u64,
+    message: &SysMsg,
+    out: &mut Lines,
+) -> Result<(), NoMemory>
+    ensures ok { OnOk result (out.new ≡ out.old ++ lines.Sent me.now other.now n message.now ∷ []) }
+    ensures err { OnErr result (out.new ≡ out.old) }
+{
+    let of = copy_of_unique(me)?;
+    let other = copy_of_unique(other)?;
+    let message = copy_of_message(message)?;
+    out.push(Line::Sent {
+        of,
+        other,
+        n,
+        message,
+    })
+}
+
+/// Tells all messages that wait as sent, numbered from 1.
+fn tell_all(
+    outbound: &Outbound,
+    me: &UniqueAddress,
+    other: &UniqueAddress,
+    out: &mut Lines,
+) -> Result<(), NoMemory>
+    ensures lines { OnOk result (out.new ≡ out.old ++ sent_lines me.now other.now 1 outbound.now.kept.messages) }
+    ensures grows { Grows out.old out.new }
+{
+    for told in 0..outbound.kept() {
+        let Some(message) = outbound.message(told + 1) else {
+            return Ok(());
+        };
+        tell_sent(me, other, told + 1, message, out)?;
     }
     Ok(())
 }
