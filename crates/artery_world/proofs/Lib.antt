@@ -8,3 +8,4 @@ pub mod Arrivals
 pub mod Runs
 pub mod Pumping
 pub mod Telling
+pub mod Places

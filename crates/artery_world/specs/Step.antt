@@ -82,6 +82,11 @@ parcels_of k = if k.learnt then numbered (k.written + 1) (take (last_to_write k 
 abbrev pub all_written : Kept → Kept
 all_written k = if k.learnt then record k { written = k.written + (last_to_write k - k.written) } else k
 
+-- the parcels to a peer, if there is one
+abbrev pub parcels_to : Option PeerState → List Parcel
+parcels_to None = []
+parcels_to (Some p) = parcels_of p.outbound
+
 abbrev pub pumps_over : ℕ → Address → ℕ → Kept → Net → Net
 pumps_over uid address other k net =
     if has_link uid other net

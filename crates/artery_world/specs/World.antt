@@ -42,6 +42,10 @@ pub record World : Type 0 where
   pub net : Net
   pub journal : List Line
 
+-- a net seen with the lines written so far
+abbrev pub seen : Net → List Line → World
+seen net lines = record { net = net; journal = lines }
+
 -- nothing has happened
 abbrev pub nothing : World
 nothing = record { net = record { started = []; live = []; pending = []; links = [] }; journal = [] }

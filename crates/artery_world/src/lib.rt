@@ -7,6 +7,8 @@ mod fault;
 mod laws;
 mod line;
 mod lines;
+mod link;
+mod node;
 mod peer;
 mod script;
 mod world;

@@ -1,0 +1,57 @@
+-- A list changed at the place of the first element that passes.
+use Rattle.std.proofs.Common.{◌≡◌, ℕ, zero, suc, ◌+◌, ◌<◌, ◌≤◌, Bool, true, false, cond, List, [], ◌∷◌, ◌++◌, length, get_or, refl, sym, ◌∙◌, ap, subst, arith, set}
+use Rattle.std.specs.Prelude.{Option, None, Some, position, find, slice_get, not, nat_lt}
+use Rattle.std.specs.List.{position_or_len}
+use Rattle.std.proofs.lemmas.Bool.Decides.{nat_tests}
+use Rattle.std.proofs.lemmas.List.Quantifiers.{position-Some}
+use Rattle.artery_world.specs.Lookup.{change_first}
+
+set_first : {X : Type 0} (p : X → Bool) (f : X → X) (xs : List X) (i : ℕ) (d : X) → i < length xs → p (get_or xs i d) ≡ true → ((k : ℕ) → k < i → p (get_or xs k d) ≡ false) → set xs i (f (get_or xs i d)) ≡ change_first p f xs
+set_first p f [] i d h t n = absurd (omega arith)
+set_first p f (x ∷ xs) zero d h t n = sym (ap (λ b. cond b (f x ∷ xs) (x ∷ change_first p f xs)) t)
+set_first p f (x ∷ xs) (suc i) d h t n =
+    ap (λ ys. x ∷ ys) (set_first p f xs i d (omega arith) t (λ k l. n (suc k) (omega arith)))
+    ∙ sym (ap (λ b. cond b (f x ∷ xs) (x ∷ change_first p f xs)) (n 0 (omega arith)))
+
+-- writing the changed element at its place changes the first that passes
+pub set_is_change : {X : Type 0} (p : X → Bool) (f : X → X) (xs : List X) (i : ℕ) (x y : X) → position p xs ≡ Some i → x ≡ get_or xs i x → y ≡ f x → set xs i y ≡ change_first p f xs
+set_is_change p f xs i x y at e c =
+    let here = position-Some p xs i x at in
+    ap (set xs i) (c ∙ ap f e) ∙ set_first p f xs i x here.0 here.1 here.2
+
+find_at : {X : Type 0} (p : X → Bool) (xs : List X) (i : ℕ) (d : X) → i < length xs → p (get_or xs i d) ≡ true → ((k : ℕ) → k < i → p (get_or xs k d) ≡ false) → find p xs ≡ Some (get_or xs i d)
+find_at p [] i d h t n = absurd (omega arith)
+find_at p (x ∷ xs) zero d h t n = ap (λ b. cond b (Some x) (find p xs)) t
+find_at p (x ∷ xs) (suc i) d h t n = ap (λ b. cond b (Some x) (find p xs)) (n 0 (omega arith)) ∙ find_at p xs i d (omega arith) t (λ k l. n (suc k) (omega arith))
+
+-- what stands at the place is what is found
+pub place_is_found : {X : Type 0} (p : X → Bool) (xs : List X) (i : ℕ) (x : X) → position p xs ≡ Some i → x ≡ get_or xs i x → find p xs ≡ Some x
+place_is_found p xs i x at e = let here = position-Some p xs i x at in find_at p xs i x here.0 here.1 here.2 ∙ ap Some (sym e)
+
+pub change_nothing : {X : Type 0} (p : X → Bool) (f : X → X) (xs : List X) → find p xs ≡ None → change_first p f xs ≡ xs
+change_nothing p f [] h = refl
+change_nothing {X} p f (x ∷ xs) h = by (p x) refl h (change_nothing p f xs)
+  where
+    by : (b : Bool) → p x ≡ b → cond b (Some x) (find p xs) ≡ None → (find p xs ≡ None → change_first p f xs ≡ xs) → cond b (f x ∷ xs) (x ∷ change_first p f xs) ≡ x ∷ xs
+    by true e g rest = cc
+    by false e g rest = ap (λ ys. x ∷ ys) (rest g)
+
+past_end : {X : Type 0} (p : X → Bool) (xs : List X) → length xs ≤ position_or_len p xs → find p xs ≡ None
+past_end p [] h = refl
+past_end {X} p (x ∷ xs) h = by (p x) refl h (past_end p xs)
+  where
+    by : (b : Bool) → p x ≡ b → suc (length xs) ≤ cond (not b) (1 + position_or_len p xs) 0 → (length xs ≤ position_or_len p xs → find p xs ≡ None) → cond (p x) (Some x) (find p xs) ≡ None
+    by true e h rest = absurd (omega arith)
+    by false e h rest = ap (λ (b : Bool). cond b (Some x) (find p xs)) e ∙ rest (omega arith)
+
+-- where there is no place, nothing is found
+pub no_place : {X : Type 0} (p : X → Bool) (xs : List X) → position p xs ≡ None → find p xs ≡ None
+no_place p xs h = past_end p xs (by (nat_lt (position_or_len p xs) (length xs)) refl h)
+  where
+    by : (b : Bool) → nat_lt (position_or_len p xs) (length xs) ≡ b → cond b (Some (position_or_len p xs)) None ≡ None → length xs ≤ position_or_len p xs
+    by true e h = cc
+    by false e h = grind (arith, nat_tests)
+
+-- where there is no place, nothing changes
+pub no_place_same : {X : Type 0} (p : X → Bool) (f : X → X) (xs : List X) → position p xs ≡ None → xs ≡ change_first p f xs
+no_place_same p f xs h = sym (change_nothing p f xs (no_place p xs h))
