@@ -1,3 +1,5 @@
 pub mod Appending
 pub mod Decimals
 pub mod HexPairs
+pub mod Places
+pub mod WordPieces

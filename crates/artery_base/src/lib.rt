@@ -2,6 +2,7 @@
 #![tactic(auto)]
 
 mod address;
+mod ascii;
 mod bytes;
 mod fault;
 mod hexadecimal;
@@ -14,8 +15,10 @@ mod sink;
 mod source;
 mod text;
 mod values;
+mod word;
 
 pub use address::{Address, UniqueAddress};
+pub use ascii::text_of;
 pub use bytes::Bytes;
 pub use fault::{AddressFault, Part, TextFault, WordFault};
 pub use hexadecimal::{print_hex, read_hex};
@@ -28,3 +31,4 @@ pub use sink::Sink;
 pub use source::{Failed, Source};
 pub use text::Text;
 pub use values::Values;
+pub use word::{print_word, read_word};
