@@ -1,3 +1,5 @@
+pub mod AddressLaws
+pub mod AddressParts
 pub mod Appending
 pub mod Decimals
 pub mod HexPairs

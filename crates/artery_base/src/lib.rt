@@ -2,6 +2,7 @@
 #![tactic(auto)]
 
 mod address;
+mod address_text;
 mod ascii;
 mod bytes;
 mod fault;
@@ -18,6 +19,7 @@ mod values;
 mod word;
 
 pub use address::{Address, UniqueAddress};
+pub use address_text::{print_address, print_unique, read_address, read_unique};
 pub use ascii::text_of;
 pub use bytes::Bytes;
 pub use fault::{AddressFault, Part, TextFault, WordFault};
