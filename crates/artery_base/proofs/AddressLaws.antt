@@ -133,7 +133,7 @@ length_ok false f o h = absurd cc
 part_ok : (xs : List ℕ) → is_in_range 1 255 (length xs) ≡ true → list_all is_part_byte xs ≡ true → IsPart xs
 part_ok xs h g = record { some = grind (arith, nat_tests, h); short = grind (arith, nat_tests, h); made_of = g }
 
-text_regrouped : (a : Address) → a.protocol ++ (codes "://" ++ (a.system ++ 64 ∷ (a.host ++ 58 ∷ decimal a.port))) ≡ address_text a
+pub text_regrouped : (a : Address) → a.protocol ++ (codes "://" ++ (a.system ++ 64 ∷ (a.host ++ 58 ∷ decimal a.port))) ≡ address_text a
 text_regrouped a = simp append_assoc
 
 made_ok : (p : Parts) (n : ℕ) → bad_length p ≡ None → bad_char p ≡ None → number_of p.port ≡ Some n → 1 ≤ n → n ≤ 65535 → IsAddress (made p n) × (joined p ≡ address_text (made p n))
@@ -142,9 +142,10 @@ made_ok p n lengths chars port low high =
     let b = length_ok (is_in_range 1 255 (length p.system)) _ _ a.1 in
     let c = length_ok (is_in_range 1 255 (length p.host)) _ _ b.1 in
     let g = chars_good p chars in
-    let digits : p.port ≡ decimal n = (number_of-Some p.port n port).1 in
-    (record { protocol = part_ok p.protocol a.0 g.0; system = part_ok p.system b.0 g.1; host = part_ok p.host c.0 g.2; port = (low, high) },
-      ap (λ (xs : List ℕ). p.protocol ++ (codes "://" ++ (p.system ++ 64 ∷ (p.host ++ 58 ∷ xs)))) digits ∙ text_regrouped (made p n))
+    let digits : p.port ≡ decimal n = (number_of-Some p.port n port).1 in (
+      record { protocol = part_ok p.protocol a.0 g.0; system = part_ok p.system b.0 g.1; host = part_ok p.host c.0 g.2; port = (low, high) },
+      ap (λ (xs : List ℕ). p.protocol ++ (codes "://" ++ (p.system ++ 64 ∷ (p.host ++ 58 ∷ xs)))) digits ∙ text_regrouped (made p n),
+    )
 
 pub address_of-Ok : (text : List ℕ) (a : Address) → address_of text ≡ Ok a → IsAddress a × (text ≡ address_text a)
 address_of-Ok text a h =
@@ -286,8 +287,8 @@ unique_of-Ok text u h =
     let a = address_of-Ok (take s.0 text) b.0 b.1 in
     let d = number_of-Some (drop (s.0 + 1) text) w.0 w.1 in
     let whole : text ≡ unique_text (numbered b.0 w.0) =
-      hash_is text s.0 s.1 ∙ ap (λ (xs : List ℕ). xs ++ 35 ∷ drop (s.0 + 1) text) a.1 ∙ ap (λ (xs : List ℕ). address_text b.0 ++ 35 ∷ xs) d.1
-      ∙ sym (append_assoc (address_text b.0) (codes "#") (decimal w.0)) in
+    hash_is text s.0 s.1 ∙ ap (λ (xs : List ℕ). xs ++ 35 ∷ drop (s.0 + 1) text) a.1 ∙ ap (λ (xs : List ℕ). address_text b.0 ++ 35 ∷ xs) d.1
+    ∙ sym (append_assoc (address_text b.0) (codes "#") (decimal w.0)) in
     subst (λ (v : UniqueAddress). IsUniqueAddress v × (text ≡ unique_text v)) (ok_is (numbered b.0 w.0) u b.2) (record { address = a.0; uid = d.0 }, whole)
 
 hash_none : (ys : List ℕ) → list_all is_ascii_digit ys ≡ true → last_hash ys ≡ None

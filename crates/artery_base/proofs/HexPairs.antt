@@ -165,7 +165,7 @@ hex_of-Ok text bytes h = elim (if_text (bytes_eq text (codes "-")) bytes (bytes_
 no_dash : (b : ℕ) (bytes : List ℕ) → b < 256 → bytes_eq (flat_map hex_pair (b ∷ bytes)) (codes "-") ≡ false
 no_dash b bytes h = grind (arith, nat_tests)
 
-hex_text-some : (b : ℕ) (bytes : List ℕ) → hex_text (b ∷ bytes) ≡ flat_map hex_pair (b ∷ bytes)
+pub hex_text-some : (b : ℕ) (bytes : List ℕ) → hex_text (b ∷ bytes) ≡ flat_map hex_pair (b ∷ bytes)
 hex_text-some b bytes = rw (not_zero (length bytes)) refl
 
 read_as : (text bytes : List ℕ) → bytes_eq text (codes "-") ≡ false → eqb (length text) 0 ≡ false → bad_pair text ≡ None → pairs_value text ≡ bytes → hex_of text ≡ Ok bytes

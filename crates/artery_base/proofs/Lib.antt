@@ -4,4 +4,5 @@ pub mod Appending
 pub mod Decimals
 pub mod HexPairs
 pub mod Places
+pub mod Tokens
 pub mod WordPieces

@@ -225,21 +225,21 @@ dash_alone b (x ∷ bytes) h n = absurd (grind (arith, nat_tests))
 
 reserved_word : (b : ℕ) (bytes : List ℕ) → AreBytes (b ∷ bytes) → is_reserved b bytes ≡ true → word_of (escaped b ++ flat_map word_piece bytes) ≡ Ok (b ∷ bytes)
 reserved_word b bytes h e = elim (cases_eq b 64) [
-    | inl at ↦ rw at (at_word (flat_map word_piece bytes) bytes (pieces_back bytes (rest_bytes b bytes h)))
-    | inr other ↦
-        let d = dash_alone b bytes e other in
-        rw (d.0, d.1) refl
-  ]
+  | inl at ↦ rw at (at_word (flat_map word_piece bytes) bytes (pieces_back bytes (rest_bytes b bytes h)))
+  | inr other ↦
+      let d = dash_alone b bytes e other in
+      rw (d.0, d.1) refl
+]
 
 -- a text of pieces that no rule on a whole word concerns
 plain_word_of : (text : List ℕ) (b : ℕ) (bytes : List ℕ) → bad_piece text ≡ None → pieces_value text ≡ b ∷ bytes → is_reserved b bytes ≡ false → word_of text ≡ Ok (b ∷ bytes)
 plain_word_of text b bytes good value free =
     let dash : bytes_eq text (codes "-") ≡ false = false_when _ (λ t.
-      let e : text ≡ codes "-" = (bytes_eq-Decides text (codes "-")).0 t in
-      let v : 45 ∷ [] ≡ b ∷ bytes = ap pieces_value (sym e) ∙ value in
-      let e1 : b ≡ 45 = cc in
-      let e2 : bytes ≡ [] = cc in
-      true_false (is_reserved b bytes) (reserved_dash b bytes e1 e2) free) in
+    let e : text ≡ codes "-" = (bytes_eq-Decides text (codes "-")).0 t in
+    let v : 45 ∷ [] ≡ b ∷ bytes = ap pieces_value (sym e) ∙ value in
+    let e1 : b ≡ 45 = cc in
+    let e2 : bytes ≡ [] = cc in
+    true_false (is_reserved b bytes) (reserved_dash b bytes e1 e2) free) in
     let some : eqb (length text) 0 ≡ false = false_when _ (λ t. empty_value text b bytes (eqb-true (length text) 0 t) value) in
     let at : eqb (get_or text 0 0) 64 ≡ false = false_when _ (λ t. true_false (is_reserved b bytes) (reserved_at b bytes (first_value text b bytes (eqb-true (get_or text 0 0) 64 t) value)) free) in
     let lone : bytes_eq text (codes "%2d") ≡ false = false_when _ (λ t. some_none (ap bad_piece (sym ((bytes_eq-Decides text (codes "%2d")).0 t)) ∙ good)) in
@@ -293,14 +293,14 @@ other_given result text front dash some at lone mark f given =
 
 reserved_not : (text : List ℕ) (b : ℕ) (bytes : List ℕ) → is_reserved b bytes ≡ true → eqb (get_or text 0 0) 64 ≡ false → bytes_eq text (codes "-") ≡ false → flat_map word_piece (b ∷ bytes) ≡ text → ⊥
 reserved_not text b bytes t at dash e = elim (cases_eq b 64) [
-    | inl same ↦
-        let front : get_or text 0 0 ≡ 64 = rw (← e, same) refl in
-        true_false (eqb (get_or text 0 0) 64) (rw front refl) at
-    | inr other ↦
-        let d = dash_alone b bytes t other in
-        let whole : text ≡ codes "-" = rw (← e, d.0, d.1) refl in
-        true_false (bytes_eq text (codes "-")) (rw whole refl) dash
-  ]
+  | inl same ↦
+      let front : get_or text 0 0 ≡ 64 = rw (← e, same) refl in
+      true_false (eqb (get_or text 0 0) 64) (rw front refl) at
+  | inr other ↦
+      let d = dash_alone b bytes t other in
+      let whole : text ≡ codes "-" = rw (← e, d.0, d.1) refl in
+      true_false (bytes_eq text (codes "-")) (rw whole refl) dash
+]
 
 word_of_pieces : (text bytes : List ℕ) → eqb (length text) 0 ≡ false → eqb (get_or text 0 0) 64 ≡ false → bytes_eq text (codes "-") ≡ false → flat_map word_piece bytes ≡ text → text ≡ word_text bytes
 word_of_pieces text [] some at dash e = absurd (true_false (eqb (length text) 0) (rw (← e) refl) some)
@@ -328,26 +328,26 @@ at_spelled text bytes e good v =
 
 good_word : (text bytes : List ℕ) → bytes_eq text (codes "-") ≡ false → bad_word text ≡ None → pieces_value text ≡ bytes → text ≡ word_text bytes
 good_word text bytes dash good value = elim (if_else (eqb (length text) 0 || eqb (get_or text 0 0) 64) (Some 0) _ good) [
-    | inl e ↦ absurd (some_none e.1)
-    | inr e ↦
-        let first = parts_false (eqb (length text) 0) (eqb (get_or text 0 0) 64) e.0 in
-        elim (if_else (bytes_eq text (codes "%2d")) None _ e.1) [
-          | inl d ↦ dash_word text bytes ((bytes_eq-Decides text (codes "%2d")).0 d.0) value
-          | inr d ↦ elim (if_else (starts_with nat_eq text (codes "%40")) (later 3 (bad_piece (drop 3 text))) (bad_piece text) d.1) [
-              | inl m ↦ at_spelled text bytes (three_at text m.0) (later_none 3 (bad_piece (drop 3 text)) m.1) value
-              | inr m ↦ word_of_pieces text bytes first.0 first.1 dash (ap (flat_map word_piece) (sym value) ∙ pieces_spelled text m.1)
-            ]
+  | inl e ↦ absurd (some_none e.1)
+  | inr e ↦
+      let first = parts_false (eqb (length text) 0) (eqb (get_or text 0 0) 64) e.0 in
+      elim (if_else (bytes_eq text (codes "%2d")) None _ e.1) [
+        | inl d ↦ dash_word text bytes ((bytes_eq-Decides text (codes "%2d")).0 d.0) value
+        | inr d ↦ elim (if_else (starts_with nat_eq text (codes "%40")) (later 3 (bad_piece (drop 3 text))) (bad_piece text) d.1) [
+          | inl m ↦ at_spelled text bytes (three_at text m.0) (later_none 3 (bad_piece (drop 3 text)) m.1) value
+          | inr m ↦ word_of_pieces text bytes first.0 first.1 dash (ap (flat_map word_piece) (sym value) ∙ pieces_spelled text m.1)
         ]
-  ]
+      ]
+]
 
 -- what reads as bytes is their word
 pub word_of-Ok : (text bytes : List ℕ) → word_of text ≡ Ok bytes → text ≡ word_text bytes
 word_of-Ok text bytes h = elim (if_text (bytes_eq text (codes "-")) bytes (bytes_or_fault (pieces_value text) (bad_word text)) h) [
-    | inl e ↦ rw e.1 ((bytes_eq-Decides text (codes "-")).0 e.0)
-    | inr e ↦
-        let f = fault_none (pieces_value text) bytes (bad_word text) e.1 in
-        good_word text bytes e.0 f.0 f.1
-  ]
+  | inl e ↦ rw e.1 ((bytes_eq-Decides text (codes "-")).0 e.0)
+  | inr e ↦
+      let f = fault_none (pieces_value text) bytes (bad_word text) e.1 in
+      good_word text bytes e.0 f.0 f.1
+]
 
 pub word_found : (text : List ℕ) (result : Result (List ℕ) WordFault) → Gives word_memory result (word_of text) → IfOk result (λ b. text ≡ word_text b)
 word_found text (Ok b) h = word_of-Ok text b h
