@@ -36,3 +36,6 @@ pub use spellings::{readings_are_spelled, spellings_are_read, spellings_are_toke
 pub use text::Text;
 pub use values::Values;
 pub use word::{print_word, read_word};
+
+#[cfg(test)]
+mod tests;
