@@ -1,9 +1,9 @@
 -- What a text reads as, or its first fault.
-use Rattle.std.specs.Prelude.{◌≡◌, ℕ, ◌+◌, ◌-◌, ◌*◌, ◌^◌, Bool, true, false, not, ◌&&◌, ◌||◌, ◌==◌, nat_lt, if◌then◌else◌, List, [], ◌∷◌, length, take, drop, codes, slice_index, bytes_eq, position, Option, Some, None, option_map, Result, Ok, Err, ℤ, pos, neg_ℤ}
+use Rattle.std.specs.Prelude.{◌≡◌, ℕ, ◌+◌, ◌-◌, ◌*◌, ◌^◌, Bool, true, false, not, ◌&&◌, ◌||◌, ◌==◌, nat_lt, if◌then◌else◌, List, [], ◌∷◌, ◌++◌, length, take, drop, codes, slice_index, bytes_eq, nat_eq, position, Option, Some, None, option_map, Result, Ok, Err, ℤ, pos, neg_ℤ}
 use Rattle.std.specs.Int.{is_in_range}
-use Rattle.std.specs.List.{list_any, before_last, after_last}
+use Rattle.std.specs.List.{list_all, starts_with}
 use Rattle.std.specs.Option.{option_or}
-use Rattle.std.specs.Str.{all_ascii_digits}
+use Rattle.std.specs.Char.{is_ascii_digit}
 use Rattle.std.specs.Str.Parse.{digits_value}
 use Rattle.artery_base.specs.declared.address.Address.{Address}
 use Rattle.artery_base.specs.declared.address.UniqueAddress.{UniqueAddress}
@@ -15,6 +15,11 @@ use Rattle.artery_base.specs.declared.fault.Part.TheVariants.{Protocol, System, 
 use Rattle.artery_base.specs.declared.fault.AddressFault.{AddressFault}
 use Rattle.artery_base.specs.declared.fault.AddressFault.TheVariants as address_faults
 use Rattle.artery_base.specs.Spelling.{is_plain, is_part_byte}
+
+-- a place counted from further left, by n bytes
+abbrev pub later : ℕ → Option ℕ → Option ℕ
+later n None = None
+later n (Some at) = Some (at + n)
 
 -- ---- want of memory
 
@@ -51,7 +56,7 @@ Gives is_memory (Err e) read = Unless (is_memory e) (read ≡ Err e)
 
 -- decimal digits, at least one, and `0` first only where it stands alone
 abbrev pub is_numeral : List ℕ → Bool
-is_numeral text = all_ascii_digits text && nat_lt 0 (length text) && (length text == 1 || not (slice_index text 0 == 48))
+is_numeral text = if length text == 0 then false else if nat_lt 1 (length text) && slice_index text 0 == 48 then false else list_all is_ascii_digit text
 
 -- a number below 2^64
 abbrev pub number_of : List ℕ → Option ℕ
@@ -93,11 +98,15 @@ hex_value c = if nat_lt c 97 then c - 48 else c - 87
 abbrev pub pair_value : ℕ → ℕ → ℕ
 pair_value high low = 16 * hex_value high + hex_value low
 
+-- the same, if they are two lower-case digits
+abbrev pub pair_of : ℕ → ℕ → Option ℕ
+pair_of high low = if is_hex_digit high && is_hex_digit low then Some (pair_value high low) else None
+
 -- the place of the first pair that is not two lower-case digits; a lone last byte counts as a pair
 abbrev pub bad_pair : List ℕ → Option ℕ
 bad_pair [] = None
 bad_pair (lone ∷ []) = Some 0
-bad_pair (high ∷ low ∷ rest) = if is_hex_digit high && is_hex_digit low then option_map (λ at. at + 2) (bad_pair rest) else Some 0
+bad_pair (high ∷ low ∷ rest) = if is_hex_digit high && is_hex_digit low then later 2 (bad_pair rest) else Some 0
 
 -- the bytes of the pairs
 abbrev pub pairs_value : List ℕ → List ℕ
@@ -109,7 +118,11 @@ abbrev pub bytes_or_fault : List ℕ → Option ℕ → Result (List ℕ) WordFa
 bytes_or_fault bytes None = Ok bytes
 bytes_or_fault bytes (Some at) = Err (word_faults.BadWord at)
 
--- the place of the first fault of a text in hexadecimal, other than `-`
+-- what a text of pairs reads as, behind bytes that were read and as many places from the left
+abbrev pub pairs_from : List ℕ → ℕ → List ℕ → Result (List ℕ) WordFault
+pairs_from bytes at text = bytes_or_fault (bytes ++ pairs_value text) (later at (bad_pair text))
+
+-- the place of the first fault of a text in hexadecimal, other than `-`; an empty text has its fault at 0
 abbrev pub bad_hex : List ℕ → Option ℕ
 bad_hex text = if length text == 0 then Some 0 else bad_pair text
 
@@ -122,13 +135,20 @@ hex_of text = if bytes_eq text (codes "-") then Ok [] else bytes_or_fault (pairs
 abbrev pub is_escape : ℕ → ℕ → ℕ → Bool
 is_escape mark high low = mark == 37 && is_hex_digit high && is_hex_digit low && not (is_plain (pair_value high low))
 
+-- the byte of such an escape at the front of a text
+abbrev pub escape_of : List ℕ → Option ℕ
+escape_of [] = None
+escape_of (a ∷ []) = None
+escape_of (a ∷ b ∷ []) = None
+escape_of (a ∷ b ∷ c ∷ rest) = if is_escape a b c then Some (pair_value b c) else None
+
 -- the place of the first piece that is neither a plain byte nor such an escape
 abbrev pub bad_piece : List ℕ → Option ℕ
 bad_piece [] = None
 bad_piece (a ∷ []) = if is_plain a then None else Some 0
-bad_piece (a ∷ b ∷ []) = if is_plain a then option_map (λ at. at + 1) (bad_piece (b ∷ [])) else Some 0
-bad_piece (a ∷ b ∷ c ∷ rest) = if is_plain a then option_map (λ at. at + 1) (bad_piece (b ∷ c ∷ rest))
-    else if is_escape a b c then option_map (λ at. at + 3) (bad_piece rest)
+bad_piece (a ∷ b ∷ []) = if is_plain a then later 1 (bad_piece (b ∷ [])) else Some 0
+bad_piece (a ∷ b ∷ c ∷ rest) = if is_plain a then later 1 (bad_piece (b ∷ c ∷ rest))
+    else if is_escape a b c then later 3 (bad_piece rest)
     else Some 0
 
 -- the bytes of the pieces
@@ -138,12 +158,16 @@ pieces_value (a ∷ []) = a ∷ []
 pieces_value (a ∷ b ∷ []) = a ∷ b ∷ []
 pieces_value (a ∷ b ∷ c ∷ rest) = if a == 37 then pair_value b c ∷ pieces_value rest else a ∷ pieces_value (b ∷ c ∷ rest)
 
+-- what a text of pieces reads as, behind bytes that were read and as many places from the left
+abbrev pub pieces_from : List ℕ → ℕ → List ℕ → Result (List ℕ) WordFault
+pieces_from bytes at text = bytes_or_fault (bytes ++ pieces_value text) (later at (bad_piece text))
+
 -- The place of the first piece that no word writes there, of a text other than `-`. A word begins with `%40` and never with
 -- `@`, and it is `%2d` where that is all of it. An empty text has its fault at 0.
 abbrev pub bad_word : List ℕ → Option ℕ
 bad_word text = if length text == 0 || slice_index text 0 == 64 then Some 0
     else if bytes_eq text (codes "%2d") then None
-    else if bytes_eq (take 3 text) (codes "%40") then option_map (λ at. at + 3) (bad_piece (drop 3 text))
+    else if starts_with nat_eq text (codes "%40") then later 3 (bad_piece (drop 3 text))
     else bad_piece text
 
 abbrev pub word_of : List ℕ → Result (List ℕ) WordFault
@@ -159,7 +183,7 @@ abbrev pub ◌>>=◌ : {A B : Type 0} → Result A AddressFault → (A → Resul
 -- the place of the first `://`
 abbrev pub scheme_end : List ℕ → Option ℕ
 scheme_end [] = None
-scheme_end (b ∷ rest) = if bytes_eq (take 3 (b ∷ rest)) (codes "://") then Some 0 else option_map (λ at. at + 1) (scheme_end rest)
+scheme_end (b ∷ rest) = if starts_with nat_eq (b ∷ rest) (codes "://") then Some 0 else later 1 (scheme_end rest)
 
 -- what stands before a separator of this length at this place, and what stands after it
 abbrev pub cut : ℕ → AddressFault → List ℕ → Option ℕ → Result (List ℕ × List ℕ) AddressFault
@@ -190,20 +214,25 @@ bad_length p = if not (is_in_range 1 255 (length p.protocol)) then Some (address
 
 -- the place in the whole text of the first byte of a part, which begins at this place, that no part may have
 abbrev pub bad_byte : ℕ → List ℕ → Option ℕ
-bad_byte from part = option_map (λ at. from + at) (position (λ b. not (is_part_byte b)) part)
+bad_byte from part = later from (position (λ b. not (is_part_byte b)) part)
 
 -- the first such byte of the parts; three bytes stand before the system and one before the host
 abbrev pub bad_char : Parts → Option ℕ
 bad_char p = option_or (bad_byte 0 p.protocol)
     (option_or (bad_byte (length p.protocol + 3) p.system) (bad_byte (length p.protocol + 3 + length p.system + 1) p.host))
 
+-- a port is a number from 1 to 65,535
+abbrev pub port_number : Option ℕ → Option ℕ
+port_number None = None
+port_number (Some n) = if is_in_range 1 65535 n then Some n else None
+
 abbrev pub with_port : Parts → Option ℕ → Result Address AddressFault
 with_port p None = Err address_faults.PortRange
-with_port p (Some n) = if is_in_range 1 65535 n then Ok (record { protocol = p.protocol; system = p.system; host = p.host; port = n }) else Err address_faults.PortRange
+with_port p (Some n) = Ok (record { protocol = p.protocol; system = p.system; host = p.host; port = n })
 
 abbrev pub after_chars : Parts → Option ℕ → Result Address AddressFault
 after_chars p (Some at) = Err (address_faults.BadChar at)
-after_chars p None = with_port p (number_of p.port)
+after_chars p None = with_port p (port_number (number_of p.port))
 
 abbrev pub after_lengths : Parts → Option AddressFault → Result Address AddressFault
 after_lengths p (Some fault) = Err fault
@@ -216,10 +245,19 @@ address_in p = after_lengths p (bad_length p)
 abbrev pub address_of : List ℕ → Result Address AddressFault
 address_of text = parts_of text >>= address_in
 
+-- the place of the last `#`
+abbrev pub last_hash : List ℕ → Option ℕ
+last_hash [] = None
+last_hash (b ∷ rest) = option_or (later 1 (last_hash rest)) (if b == 35 then Some 0 else None)
+
 abbrev pub with_uid : List ℕ → Option ℕ → Result UniqueAddress AddressFault
 with_uid text None = Err address_faults.NoUid
 with_uid text (Some uid) = address_of text >>= λ a. Ok (record { address = a; uid = uid })
 
--- the UID stands after the last `#` and is tried first
+abbrev pub split_uid : List ℕ → Option ℕ → Result UniqueAddress AddressFault
+split_uid text None = Err address_faults.NoUid
+split_uid text (Some at) = with_uid (take at text) (number_of (drop (at + 1) text))
+
+-- the UID stands after the last `#`; it is tried first, then the address before it
 abbrev pub unique_of : List ℕ → Result UniqueAddress AddressFault
-unique_of text = if list_any (λ b. b == 35) text then with_uid (before_last (λ b. b == 35) text) (number_of (after_last (λ b. b == 35) text)) else Err address_faults.NoUid
+unique_of text = split_uid text (last_hash text)

@@ -28,8 +28,7 @@ hex_pair b = hex_digit (b / 16) ∷ hex_digit (b % 16) ∷ []
 
 -- hexadecimal: two digits a byte, and `-` for no bytes
 abbrev pub hex_text : List ℕ → List ℕ
-hex_text [] = codes "-"
-hex_text (b ∷ bytes) = flat_map hex_pair (b ∷ bytes)
+hex_text bytes = if length bytes == 0 then codes "-" else flat_map hex_pair bytes
 
 -- whether a word has this byte as itself: visible, and no `%`
 abbrev pub is_plain : ℕ → Bool
