@@ -105,6 +105,18 @@ pumps_peer uid address (Some p) net = pumps_current uid address p.current p.outb
 abbrev pub pumps : ℕ → Address → Net → Net
 pumps uid address net = pumps_peer uid address (peer_of uid address net) net
 
+-- the UID that was learnt at a peer
+abbrev pub current_at : Option PeerState → Option ℕ
+current_at None = None
+current_at (Some p) = p.current
+
+-- what may be written to a peer goes onto the link to an incarnation, where there is one
+abbrev pub pumps_onto : ℕ → Address → ℕ → Net → Net
+pumps_onto uid address other net =
+    if has_link uid other net
+    then puts uid other (parcels_to (peer_of uid address net)) (in_peer uid address (with_outbound all_written) net)
+    else net
+
 -- ---- requests
 
 abbrev pub knows : Address → NodeState → Bool

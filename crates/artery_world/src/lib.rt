@@ -8,6 +8,7 @@ mod laws;
 mod line;
 mod lines;
 mod link;
+mod network;
 mod node;
 mod peer;
 mod script;

@@ -108,6 +108,14 @@ impl Node {
         Ok(())
     }
 
+    /// Makes a peer of another incarnation, where its address is new, and opens it as an origin.
+    pub fn greet(&mut self, alloc: Global, other: &UniqueAddress) -> Result<(), NoMemory>
+        ensures { OnOk result (self.new ≡ opens other.now (with_peer other.now.address self.old)) }
+    {
+        self.make_peer(&other.address)?;
+        self.open(alloc, other)
+    }
+
     /// Whether the origin is open.
     pub fn expects(&self, origin: &UniqueAddress) -> bool
         ensures { result ≡ is_some (expected_of origin.now self.now.inbound) }
@@ -156,16 +164,16 @@ impl Node {
     }
 
     /// Pumps what may be written to the peer at this address onto a link.
-    #[tactic(auto, using(crate::proofs::Places::set_is_change, crate::proofs::Places::no_place_same, crate::proofs::Places::place_is_found, crate::proofs::Places::no_place))]
+    #[tactic(auto, using(crate::proofs::Pumped::no_parcels, crate::proofs::Places::set_is_change, crate::proofs::Places::no_place_same, crate::proofs::Places::place_is_found, crate::proofs::Places::no_place))]
     pub fn pump(&mut self, address: &Address, values: &mut VecDeque<Parcel>) -> Result<(), NoMemory>
         ensures values { OnOk result (values.new.items ≡ values.old.items ++ parcels_to (find (is_at address.now) self.old.peers)) }
         ensures peers { OnOk result (self.new ≡ record self.old { peers = change_first (is_at address.now) (with_outbound all_written) self.old.peers }) }
     {
-        if let Some(at) = self.place_of(address) {
-            let peer = &mut self.peers[at];
-            peer.pump(values)?;
-        }
-        Ok(())
+        let Some(at) = self.place_of(address) else {
+            return Ok(());
+        };
+        let peer = &mut self.peers[at];
+        peer.pump(values)
     }
 
     /// Takes an acknowledgement of the peer at this address.
