@@ -3,16 +3,22 @@ ghost use Rattle.std.specs.Option.{option_copied, option_map};
 ghost use Rattle.artery_delivery.specs.Outbound.{acceptance, kept_accepted, kept_acknowledged};
 ghost use Rattle.artery_world.specs.Lookup.{Grows};
 ghost use Rattle.artery_world.specs.World.{Net, World, nothing, seen, has_uid, lives_at, node_of, peer_of};
-ghost use Rattle.artery_world.specs.Step.{in_node, in_peer, with_outbound, joins, has_link, puts, pumps, pumps_onto, current_at, opens, with_peer};
+ghost use Rattle.artery_world.specs.Step.{in_node, in_peer, with_outbound, joins, has_link, puts, pumps, pumps_onto, current_at, opens, with_peer, learnt_peer, learns, links_up, meets, settles, settles_all, pairs_up};
+ghost use Rattle.artery_world.specs.declared.line.Line.TheVariants as lines;
 
+use crate::copies::copy_of_unique;
 use crate::event::{Parcel, Pending};
+use crate::line::Line;
+use crate::lines::Lines;
 use crate::link::Link;
 use crate::node::Node;
+use crate::peer::Peer;
 use artery_base::{Address, NoMemory, SysMsg, UniqueAddress};
 use artery_delivery::Accept;
 use std::alloc::Global;
 use std::collections::VecDeque;
 use std::marker::Model;
+use std::mem;
 
 /// The incarnations of a world, what they asked for, and the links between them.
 #[derive(Drop)]
@@ -168,4 +174,130 @@ impl Network {
         let node = &mut self.live[at];
         node.greet(alloc, other)
     }
+
+    /// The peer of an incarnation at an address.
+    fn peer(&self, uid: u64, address: &Address) -> Option<&Peer>
+        ensures { option_copied result ≡ peer_of uid address.now self.now }
+    {
+        self.node(uid)?.peer(address)
+    }
+
+    /// Learns who lives at the address of a peer of which nothing is learnt yet.
+    #[tactic(auto, using(crate::proofs::Places::set_is_change, crate::proofs::Places::no_place_same, crate::proofs::Places::place_is_found))]
+    fn set_current(&mut self, uid: u64, address: &Address, other: u64)
+        requires { IfSome (peer_of uid address.now self.old) (λ p. p.current ≡ None) }
+        ensures { self.new ≡ in_peer uid address.now (learnt_peer other) self.old }
+    {
+        if let Some(at) = self.node_at(uid) {
+            let node = &mut self.live[at];
+            node.learn(address, other);
+        }
+    }
+
+    /// Learns another incarnation, where nothing is learnt at its address yet, and tells all that
+    /// waited as sent to it.
+    #[tactic(auto, using(crate::proofs::Telling::grows_self, crate::proofs::Telling::grows_on, crate::proofs::Telling::grows_push))]
+    fn learn(
+        &mut self,
+        me: &UniqueAddress,
+        other: &UniqueAddress,
+        out: &mut Lines,
+    ) -> Result<(), NoMemory>
+        ensures ok { OnOk result (seen self.new out.new ≡ learns me.now other.now (peer_of me.now.uid other.now.address self.old) (seen self.old out.old)) }
+        ensures grows { Grows out.old out.new }
+    {
+        let Some(peer) = self.peer(me.uid, &other.address) else {
+            return Ok(());
+        };
+        if peer.current().is_some() {
+            return Ok(());
+        }
+        tell_learnt(me, other, out)?;
+        peer.tell_waiting(me, other, out)?;
+        self.set_current(me.uid, &other.address, other.uid);
+        Ok(())
+    }
+
+    /// Makes a link where there is none, and pumps onto it.
+    fn link_up(&mut self, alloc: Global, uid: u64, other: &UniqueAddress) -> Result<(), NoMemory>
+        ensures { OnOk result (self.new ≡ links_up uid other.now self.old) }
+    {
+        if self.has_link(uid, other.uid) {
+            return Ok(());
+        }
+        self.links.push(Link::new(alloc, uid, other.uid))?;
+        self.pump(uid, &other.address)
+    }
+
+    /// One incarnation meets another.
+    #[tactic(auto, using(crate::proofs::Telling::grows_self))]
+    fn meet(
+        &mut self,
+        alloc: Global,
+        me: &UniqueAddress,
+        other: &UniqueAddress,
+        out: &mut Lines,
+    ) -> Result<(), NoMemory>
+        ensures ok { OnOk result (seen self.new out.new ≡ meets me.now other.now (seen self.old out.old)) }
+        ensures grows { Grows out.old out.new }
+    {
+        self.greet(alloc, me.uid, other)?;
+        self.learn(me, other, out)?;
+        self.link_up(alloc, me.uid, other)
+    }
+
+    /// Makes a pair where somebody lives at the address that was asked for; else it stays.
+    #[tactic(auto, using(crate::proofs::Telling::grows_self, crate::proofs::Telling::grows_on))]
+    fn settle(&mut self, alloc: Global, pair: Pending, out: &mut Lines) -> Result<(), NoMemory>
+        ensures ok { OnOk result (seen self.new out.new ≡ settles pair (seen self.old out.old)) }
+        ensures grows { Grows out.old out.new }
+    {
+        let Some(asker) = self.node(pair.asker) else {
+            return Ok(());
+        };
+        let Some(other) = self.living_at(&pair.address) else {
+            self.pending.push_back(pair)?;
+            return Ok(());
+        };
+        let asker = copy_of_unique(asker.me())?;
+        let other = copy_of_unique(other.me())?;
+        self.meet(alloc, &asker, &other, out)?;
+        self.meet(alloc, &other, &asker, out)
+    }
+
+    /// Settles pairs in order.
+    #[tactic(auto, using(crate::proofs::Telling::grows_self, crate::proofs::Telling::grows_on))]
+    fn settle_all(
+        &mut self,
+        alloc: Global,
+        asked: &mut VecDeque<Pending>,
+        out: &mut Lines,
+    ) -> Result<(), NoMemory>
+        ensures ok { OnOk result (seen self.new out.new ≡ settles_all asked.old.items (seen self.old out.old)) }
+        ensures grows { Grows out.old out.new }
+    {
+        while let Some(pair) = asked.pop_front() {
+            self.settle(alloc, pair, out)?;
+        }
+        Ok(())
+    }
+
+    /// Settles the pairs that are pending.
+    fn pair_up(&mut self, alloc: Global, out: &mut Lines) -> Result<(), NoMemory>
+        ensures ok { OnOk result (seen self.new out.new ≡ pairs_up (seen self.old out.old)) }
+        ensures grows { Grows out.old out.new }
+    {
+        let mut asked = mem::replace(&mut self.pending, VecDeque::new(alloc));
+        self.settle_all(alloc, &mut asked, out)
+    }
+}
+
+/// Tells that an incarnation was learnt. Without memory nothing changes.
+fn tell_learnt(me: &UniqueAddress, other: &UniqueAddress, out: &mut Lines) -> Result<(), NoMemory>
+    ensures ok { OnOk result (out.new ≡ out.old ++ lines.Learnt me.now other.now ∷ []) }
+    ensures err { OnErr result (out.new ≡ out.old) }
+{
+    let of = copy_of_unique(me)?;
+    let other = copy_of_unique(other)?;
+    out.push(Line::Learnt { of, other })
 }
