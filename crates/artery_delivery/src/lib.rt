@@ -6,5 +6,8 @@ mod laws;
 mod outbound;
 
 pub use inbound::{Inbound, Opened, Take};
-pub use outbound::{Accept, Acked, Outbound};
 pub use laws::{expecting_stands, keeping_stands, origins_stay_known};
+pub use outbound::{Accept, Acked, Outbound};
+
+#[cfg(test)]
+mod tests;
