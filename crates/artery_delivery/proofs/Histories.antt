@@ -1,5 +1,5 @@
 -- The expected numbers follow the whole lists of messages taken.
-use Rattle.std.proofs.Common.{◌≡◌, ℕ, ◌+◌, ◌-◌, ◌<◌, ◌≤◌, Bool, true, false, List, [], ◌∷◌, ◌++◌, length, refl, ap, ◌∙◌, sym, arith, length-append}
+use Rattle.std.proofs.Common.{◌≡◌, ℕ, ◌+◌, Bool, true, false, List, [], ◌∷◌, ◌++◌, length, refl, ap, ◌∙◌, sym, arith, length-append}
 use Rattle.std.specs.Prelude.{map, Option, Some, None, is_some, unwrap_or, if◌then◌else◌}
 use Rattle.std.specs.Map.{lookup, set_value}
 use Rattle.std.specs.Option.{option_map}
@@ -25,15 +25,17 @@ module _ (test : UniqueAddress → Bool) where
   lookup_numbers [] = refl
   lookup_numbers (e ∷ es) =
       elim (test e.0) as (λ b. (if b then Some (length e.1 + 1) else lookup test (numbers es)) ≡ option_map (λ t. length t + 1) (if b then Some e.1 else lookup test es)) [
-          true ↦ refl
-          | false ↦ lookup_numbers es ]
+        | true ↦ refl
+        | false ↦ lookup_numbers es
+      ]
 
   set_numbers : (all : List (UniqueAddress × List SysMsg)) (t : List SysMsg) → numbers (set_value test all t) ≡ set_value test (numbers all) (length t + 1)
   set_numbers [] t = refl
   set_numbers (e ∷ es) t =
       elim (test e.0) as (λ b. numbers (if b then (e.0, t) ∷ es else e ∷ set_value test es t) ≡ (if b then (e.0, length t + 1) ∷ numbers es else (e.0, length e.1 + 1) ∷ set_value test (numbers es) (length t + 1))) [
-          true ↦ refl
-          | false ↦ ap (λ (r : List (UniqueAddress × ℕ)). (e.0, length e.1 + 1) ∷ r) (set_numbers es t) ]
+        | true ↦ refl
+        | false ↦ ap (λ (r : List (UniqueAddress × ℕ)). (e.0, length e.1 + 1) ∷ r) (set_numbers es t)
+      ]
 
 known_is : (o : UniqueAddress) (all : List (UniqueAddress × List SysMsg)) → is_some (expected_of o (numbers all)) ≡ is_some (taken_of o all)
 known_is o all = ap is_some (lookup_numbers (same_origin o) all) ∙ is_some_map (λ t. length t + 1) (taken_of o all)
@@ -55,7 +57,7 @@ after_alike OriginsFull o all = refl
 
 pub opened_alike : (o : UniqueAddress) (entries : List (UniqueAddress × ℕ)) (all : List (UniqueAddress × List SysMsg)) → Stands entries all → Stands (with_origin o entries) (opened o all)
 opened_alike o entries all s = record {
-    numbers = rw (opens_alike o entries all s, s.numbers) (after_alike (answer_to_open o all) o all);
+  numbers = rw (opens_alike o entries all s, s.numbers) (after_alike (answer_to_open o all) o all);
 }
 
 pub takes_alike : (o : UniqueAddress) (n : ℕ) (entries : List (UniqueAddress × ℕ)) (all : List (UniqueAddress × List SysMsg)) → Stands entries all → taking o n entries ≡ answer_to_take o n all
@@ -73,7 +75,7 @@ expected_is n e h = grind (arith, nat_tests)
 
 pub taken_alike : (o : UniqueAddress) (n : ℕ) (m : SysMsg) (entries : List (UniqueAddress × ℕ)) (all : List (UniqueAddress × List SysMsg)) → Stands entries all → Stands (with_taken o n entries) (taken o n m all)
 taken_alike o n m entries all s = record {
-    numbers = rw (s.numbers, next_is o all) (taken_or_stays o n m all (is_expected n (length (messages_from o all) + 1)) (expected_is n (length (messages_from o all) + 1)));
+  numbers = rw (s.numbers, next_is o all) (taken_or_stays o n m all (is_expected n (length (messages_from o all) + 1)) (expected_is n (length (messages_from o all) + 1)));
 }
 
 -- the same for what a call answered and left

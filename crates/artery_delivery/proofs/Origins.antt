@@ -1,6 +1,6 @@
 -- What the map's own words say of the origins.
-use Rattle.std.proofs.Common.{◌≡◌, ℕ, ◌+◌, Bool, true, false, List, [], ◌∷◌, ◌++◌, length, refl, ap, sym, ◌∙◌, true≢false}
-use Rattle.std.specs.Prelude.{Option, Some, None, is_some, IsSome, if◌then◌else◌, nat_le}
+use Rattle.std.proofs.Common.{◌≡◌, ℕ, ◌+◌, Bool, true, false, List, [], ◌∷◌, ◌++◌, length, refl, ap, sym, true≢false}
+use Rattle.std.specs.Prelude.{Option, Some, is_some, IsSome, if◌then◌else◌, nat_le}
 use Rattle.std.specs.Map.{lookup, set_value}
 use Rattle.indexmap.specs.IndexMap.{insert_entry}
 use Rattle.artery_base.specs.contracts.address.UniqueAddressEq.TheImpl.Laws.{laws-law}
@@ -43,7 +43,7 @@ module _ (test : UniqueAddress → Bool) where
       by true rest = refl
       by false rest = rest
 
-  known_set : (set : UniqueAddress → Bool) (es : List (UniqueAddress × ℕ)) (w : ℕ) → IsSome (lookup test es) → IsSome (lookup test (set_value set es w))
+  pub known_set : (set : UniqueAddress → Bool) (es : List (UniqueAddress × ℕ)) (w : ℕ) → IsSome (lookup test es) → IsSome (lookup test (set_value set es w))
   known_set set [] w h = h
   known_set set (e ∷ es) w h = by (set e.0) (known_set set es w)
     where
@@ -80,3 +80,6 @@ known_after o es = by (opening o es) (known_is_known (is_some (expected_of o es)
     by NewlyOpened h = known_last (same_origin o) es o 1 (laws-law.refl o)
     by Known h = h refl
     by OriginsFull h = tt
+
+pub opened_is_known : (o : UniqueAddress) (old new : List (UniqueAddress × ℕ)) → opening o old ≡ NewlyOpened → new ≡ with_origin o old → IsKnown o new
+opened_is_known o old new is left = rw (left, is) (known_last (same_origin o) old o 1 (laws-law.refl o))

@@ -3,7 +3,7 @@ use Rattle.std.specs.Prelude.{◌≡◌, ℕ, ◌+◌, ◌≤◌, false, List, [
 use Rattle.circular_buffer.specs.Buffer.{Buffer}
 use Rattle.artery_base.specs.declared.message.SysMsg.{SysMsg}
 use Rattle.artery_delivery.specs.declared.outbound.TheConstants.{MOST_KEPT, LAST_NUMBER}
-use Rattle.artery_delivery.specs.Outbound.{Kept, Outbox}
+use Rattle.artery_delivery.specs.Outbound.{Outbox}
 
 -- The messages in the ring, if there is one.
 abbrev pub messages_in : Option (Buffer SysMsg) → List SysMsg

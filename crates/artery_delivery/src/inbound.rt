@@ -1,8 +1,8 @@
 //! The messages that are expected of many origins.
-ghost use Rattle.std.specs.Prelude.{is_some, ◌≡◌, ℕ, List, [], OnOk, OnErr, IfOk, IsSome};
+ghost use Rattle.std.specs.Prelude.{is_some, ◌≡◌, ℕ, List, [], OnOk, OnErr, IfOk};
 ghost use Rattle.artery_base.specs.declared.message.SysMsg.{SysMsg};
 ghost use Rattle.artery_base.specs.declared.address.UniqueAddress.{UniqueAddress};
-ghost use Rattle.artery_delivery.specs.Inbound.{expected_of, opening, with_origin, taking, with_taken, answer_to_open, opened, answer_to_take, taken, Stands};
+ghost use Rattle.artery_delivery.specs.Inbound.{expected_of, IsKnown, IsKnownAfter, opening, with_origin, taking, with_taken, answer_to_open, opened, answer_to_take, taken, Stands};
 
 use artery_base::{NoMemory, UniqueAddress};
 use indexmap::IndexMap;
@@ -74,15 +74,12 @@ impl Inbound {
 
     /// Opens an origin, of which number 1 is then expected. A known origin stays as it is, and a new one is refused beside 1,024 others.
     /// Without memory nothing changes.
-    #[tactic(auto, using(crate::proofs::Histories::opening_stands))]
-    pub fn open_origin(
-        &mut self,
-        alloc: Global,
-        origin: &UniqueAddress,
-    ) -> Result<Opened, NoMemory>
+    #[tactic(auto, using(crate::proofs::Histories::opening_stands, crate::proofs::Origins::known_after))]
+    pub fn open_origin(&mut self, alloc: Global, origin: &UniqueAddress) -> Result<Opened, NoMemory>
         ensures answer { IfOk result (λ answer. answer ≡ opening origin.now self.old) }
         ensures entries { OnOk result (self.new ≡ with_origin origin.now self.old) }
         ensures err { OnErr result (self.new ≡ self.old) }
+        ensures known { IfOk result (λ answer. IsKnownAfter answer origin.now self.new) }
         ensures history { (all : List (UniqueAddress × List SysMsg)) → Stands self.old all → IfOk result (λ answer. (answer ≡ answer_to_open origin.now all) × Stands self.new (opened origin.now all)) }
     {
         match self.opening(origin) {
@@ -147,11 +144,12 @@ impl Inbound {
     /// number it is Again, and else Gap. Number 18,446,744,073,709,551,615 is never expected.
     ///
     /// Wants that the origin is known.
-    #[tactic(auto, using(std::proofs::lemmas::Map::Steps::set_value_same))]
+    #[tactic(auto, using(std::proofs::lemmas::Map::Steps::set_value_same, crate::proofs::Origins::known_set))]
     pub fn take(&mut self, origin: &UniqueAddress, n: u64) -> Take
-        requires { IsSome (expected_of origin.now self.old) }
+        requires { IsKnown origin.now self.old }
         ensures answer { result ≡ taking origin.now n self.old }
         ensures entries { self.new ≡ with_taken origin.now n self.old }
+        ensures known { IsKnown origin.now self.new }
         ensures history { (all : List (UniqueAddress × List SysMsg)) (message : SysMsg) → Stands self.old all → (result ≡ answer_to_take origin.now n all) × Stands self.new (taken origin.now n message all) }
     {
         let Some(map) = &mut self.expected else {

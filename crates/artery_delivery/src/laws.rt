@@ -19,8 +19,7 @@ pub fn keeping_stands()
     ensures next { (k : Kept) (s : State) → Stands k s → next_to_write k ≡ next_sent s }
     ensures pump { (k : Kept) (s : State) → Stands k s → Stands (kept_pumped k) (pumped s) }
     ensures messages { (k : Kept) (s : State) → Stands k s → k.messages ≡ unacknowledged s }
-{
-}
+{}
 
 /// The numbers that an `Inbound` expects stand for the messages taken: every call keeps them so and has the answer of the whole lists' step.
 #[tactic(auto, using(crate::proofs::Histories::opens_alike, crate::proofs::Histories::opened_alike, crate::proofs::Histories::takes_alike, crate::proofs::Histories::taken_alike))]
@@ -30,8 +29,7 @@ pub fn expecting_stands()
     ensures open { (origin : UniqueAddress) (entries : List (UniqueAddress × ℕ)) (all : List (UniqueAddress × List SysMsg)) → StandsFor entries all → StandsFor (with_origin origin entries) (opened origin all) }
     ensures takes { (origin : UniqueAddress) (n : ℕ) (entries : List (UniqueAddress × ℕ)) (all : List (UniqueAddress × List SysMsg)) → StandsFor entries all → taking origin n entries ≡ answer_to_take origin n all }
     ensures take { (origin : UniqueAddress) (n : ℕ) (m : SysMsg) (entries : List (UniqueAddress × ℕ)) (all : List (UniqueAddress × List SysMsg)) → StandsFor entries all → StandsFor (with_taken origin n entries) (taken origin n m all) }
-{
-}
+{}
 
 /// An origin that was opened is known, and every origin that is known stays so.
 #[tactic(auto, using(crate::proofs::Origins::known_after, crate::proofs::Origins::stays_known_open, crate::proofs::Origins::stays_known_take))]
@@ -39,5 +37,4 @@ pub fn origins_stay_known()
     ensures opened { (origin : UniqueAddress) (entries : List (UniqueAddress × ℕ)) → IsKnownAfter (opening origin entries) origin (with_origin origin entries) }
     ensures open { (origin other : UniqueAddress) (entries : List (UniqueAddress × ℕ)) → IsKnown other entries → IsKnown other (with_origin origin entries) }
     ensures take { (origin other : UniqueAddress) (n : ℕ) (entries : List (UniqueAddress × ℕ)) → IsKnown other entries → IsKnown other (with_taken origin n entries) }
-{
-}
+{}

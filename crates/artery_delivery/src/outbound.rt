@@ -2,6 +2,7 @@
 ghost use Rattle.std.specs.Prelude.{◌≡◌, ◌+◌, ◌<◌, ◌≤◌, true, false, length, OnOk, OnErr, IsOk, is_some, IfSome, IfNone, None};
 ghost use Rattle.std.specs.Option.{option_copied, option_map};
 ghost use Rattle.std.specs.Borrow.{sem};
+ghost use Rattle.artery_delivery.specs.Rings.{IsInOrder};
 ghost use Rattle.artery_delivery.specs.Lending.{EndsPumped, Pumps};
 ghost use Rattle.artery_delivery.specs.Outbound.{State, Stands, nothing_kept, is_full, given, acceptance, kept_accepted, kept_learnt, kept_forgotten, acknowledgement, kept_acknowledged, kept_refused, kept_rewound, kept_message, next_to_write, room_reserved, answer_to, accepted, learnt, forgotten, answer_to_ack, acknowledged, refused, rewound, next_sent};
 
@@ -82,6 +83,7 @@ impl Outbound {
     /// How many messages are kept.
     pub fn kept(&self) -> u64
         ensures count { result ≡ length self.now.kept.messages }
+        ensures order { IsInOrder self.now }
     {
         match &self.ring {
             Some(ring) => ring.len() as u64,
