@@ -1,5 +1,5 @@
 -- The step of the early world: what an event makes of a world and its journal.
-use Rattle.std.specs.Prelude.{ℕ, zero, suc, ◌+◌, ◌-◌, min, Bool, true, false, not, ◌==◌, nat_lt, if◌then◌else◌, List, [], ◌∷◌, ◌++◌, length, take, drop, slice_get, slice_set, find, Option, None, Some, is_some, Result, Ok, Err}
+use Rattle.std.specs.Prelude.{◌≡◌, ℕ, zero, suc, ◌+◌, ◌-◌, min, Bool, true, false, not, ◌==◌, nat_lt, if◌then◌else◌, List, [], ◌∷◌, ◌++◌, length, take, drop, slice_get, slice_set, find, Option, None, Some, is_some, Result, Ok, Err}
 use Rattle.std.specs.List.{list_any}
 use Rattle.artery_base.specs.declared.address.Address.{Address}
 use Rattle.artery_base.specs.declared.address.UniqueAddress.{UniqueAddress}
@@ -25,7 +25,7 @@ use Rattle.artery_world.specs.declared.fault.Why.TheVariants.{UsedUid, AddressLi
 use Rattle.artery_world.specs.declared.fault.WorldLimit.{WorldLimit}
 use Rattle.artery_world.specs.declared.fault.WorldLimit.TheVariants as limits
 use Rattle.artery_world.specs.declared.fault.WorldFault.{WorldFault}
-use Rattle.artery_world.specs.declared.fault.WorldFault.TheVariants.{NotAllowed, Limit}
+use Rattle.artery_world.specs.declared.fault.WorldFault.TheVariants.{NotAllowed, Limit, NoMemory}
 use Rattle.artery_world.specs.declared.world.TheConstants.{MOST_NODES}
 use Rattle.artery_world.specs.Lookup.{change_first}
 use Rattle.artery_world.specs.World.{PeerState, NodeState, LinkState, Net, World, new_peer, new_node, has_uid, lives_at, is_at, node_of, peer_of, same_address}
@@ -203,6 +203,19 @@ settles_all (p ∷ ps) w = settles_all ps (settles p w)
 abbrev pub pairs_up : World → World
 pairs_up w = settles_all w.net.pending (on_net (λ net. record net { pending = [] }) w)
 
+-- whether a message from an origin is taken: the origin is open, and the number is the expected one
+abbrev pub is_taken : Take → Bool
+is_taken Taken = true
+is_taken (Again last) = false
+is_taken (Gap last) = false
+
+abbrev pub takes_next : Option NodeState → UniqueAddress → ℕ → Bool
+takes_next None origin n = false
+takes_next (Some b) origin n = if is_some (expected_of origin b.inbound) then is_taken (taking origin n b.inbound) else false
+
+abbrev pub counted : UniqueAddress → ℕ → NodeState → NodeState
+counted origin n b = record b { inbound = with_taken origin n b.inbound }
+
 -- a message with the expected number is taken and acknowledged; any other changes nothing
 abbrev pub takes : UniqueAddress → UniqueAddress → ℕ → SysMsg → Take → World → World
 takes me origin n message Taken w =
@@ -217,6 +230,11 @@ arrives_from b origin (Numbered n message) w =
     if is_some (expected_of origin b.inbound) then takes b.me origin n message (taking origin n b.inbound) w else w
 arrives_from b origin (Ack n) w =
     on_net (λ net. pumps b.me.uid origin.address (in_peer b.me.uid origin.address (with_outbound (kept_acknowledged n)) net)) w
+
+-- the same, at the incarnation that is found under the receiver's UID
+abbrev pub arrives_at : Option NodeState → UniqueAddress → UniqueAddress → Parcel → World → World
+arrives_at None me origin parcel w = w
+arrives_at (Some b) me origin parcel w = arrives_from (record b { me = me }) origin parcel w
 
 abbrev pub arrives_between : Option NodeState → Option NodeState → Parcel → World → World
 arrives_between None b parcel w = w
@@ -282,3 +300,10 @@ abbrev pub step : Event → World → Result World WorldFault
 step (Start unique) w = starts unique w
 step (At uid request) w = asked (node_of uid w.net) request w
 step (Pass rounds) w = Ok (passes_times rounds w)
+
+-- what an event came to: the world after it, or the reason why it does not happen; nothing is said where memory ran out
+abbrev pub Happens : {X : Type 0} → Result X WorldFault → World → Result World WorldFault → Type 0
+Happens (Ok x) after stepped = stepped ≡ Ok after
+Happens (Err (NotAllowed why)) after stepped = stepped ≡ Err (NotAllowed why)
+Happens (Err (Limit which)) after stepped = stepped ≡ Err (Limit which)
+Happens (Err NoMemory) after stepped = Unit {0}

@@ -1,3 +1,5 @@
+use artery_base::NoMemory;
+
 /// Why an event is not allowed. Where several hold, the first in this order is told.
 #[derive(Clone, Copy, Debug, PartialEq, Eq)]
 pub enum Why {
@@ -29,4 +31,15 @@ pub enum WorldFault {
     Limit { which: WorldLimit },
     /// Memory ran out. The world has ended.
     NoMemory,
+}
+
+impl From<NoMemory> for WorldFault {
+    ghost use Rattle.std.specs.Prelude.{◌≡◌};
+    ghost use Rattle.artery_world.specs.declared.fault.WorldFault.TheVariants as faults;
+
+    ghost from_gives = { λ _ e. e ≡ faults.NoMemory };
+
+    fn from(_want: NoMemory) -> WorldFault {
+        WorldFault::NoMemory
+    }
 }

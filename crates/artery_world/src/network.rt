@@ -1,10 +1,11 @@
-ghost use Rattle.std.specs.Prelude.{◌≡◌, ℕ, ◌<◌, List, [], ◌∷◌, ◌++◌, length, Option, Some, None, find, position, is_some, IfOk, OnOk, OnErr, IfSome};
+ghost use Rattle.std.specs.Prelude.{if◌then◌else◌, ◌≡◌, ℕ, ◌<◌, List, [], ◌∷◌, ◌++◌, length, Option, Some, None, find, position, is_some, IfOk, OnOk, OnErr, IfSome};
 ghost use Rattle.std.specs.Option.{option_copied, option_map};
 ghost use Rattle.artery_delivery.specs.Outbound.{acceptance, kept_accepted, kept_acknowledged};
 ghost use Rattle.artery_world.specs.Lookup.{Grows};
 ghost use Rattle.artery_world.specs.World.{Net, World, nothing, seen, has_uid, lives_at, node_of, peer_of};
-ghost use Rattle.artery_world.specs.Step.{in_node, in_peer, with_outbound, joins, has_link, puts, pumps, pumps_onto, current_at, opens, with_peer, learnt_peer, learns, links_up, meets, settles, settles_all, pairs_up};
+ghost use Rattle.artery_world.specs.Step.{in_node, in_peer, with_outbound, joins, has_link, puts, pumps, pumps_onto, current_at, opens, with_peer, learnt_peer, learns, links_up, meets, settles, settles_all, pairs_up, arrives_at, takes_next, counted};
 ghost use Rattle.artery_world.specs.declared.line.Line.TheVariants as lines;
+ghost use Rattle.artery_world.specs.declared.event.Parcel.TheVariants as parcels;
 
 use crate::copies::copy_of_unique;
 use crate::event::{Parcel, Pending};
@@ -290,6 +291,69 @@ impl Network {
         let mut asked = mem::replace(&mut self.pending, VecDeque::new(alloc));
         self.settle_all(alloc, &mut asked, out)
     }
+
+    /// Counts a message at an incarnation, and answers whether it was the expected one.
+    #[tactic(auto, using(crate::proofs::Places::set_is_change, crate::proofs::Places::no_place, crate::proofs::Places::place_is_found, crate::proofs::Taking::same_live))]
+    fn count(&mut self, uid: u64, origin: &UniqueAddress, n: u64) -> bool
+        ensures answer { result ≡ takes_next (node_of uid self.old) origin.now n }
+        ensures counted { self.new ≡ (if result then in_node uid (counted origin.now n) self.old else self.old) }
+    {
+        let Some(at) = self.node_at(uid) else {
+            return false;
+        };
+        let node = &mut self.live[at];
+        node.count(origin, n)
+    }
+
+    /// A message arrives: it is taken where it is the expected one of its origin, told and
+    /// acknowledged. Any other changes nothing.
+    #[tactic(auto, using(crate::proofs::Taking::arrives_taken, crate::proofs::Taking::arrives_missed, crate::proofs::Telling::grows_self, crate::proofs::Telling::grows_push))]
+    fn take(
+        &mut self,
+        me: &UniqueAddress,
+        origin: &UniqueAddress,
+        n: u64,
+        message: SysMsg,
+        out: &mut Lines,
+    ) -> Result<(), NoMemory>
+        ensures ok { OnOk result (seen self.new out.new ≡ arrives_at (node_of me.now.uid self.old) me.now origin.now (parcels.Numbered n message) (seen self.old out.old)) }
+        ensures grows { Grows out.old out.new }
+    {
+        if !self.count(me.uid, origin, n) {
+            return Ok(());
+        }
+        tell_took(me, origin, n, message, out)?;
+        self.put(me.uid, origin.uid, Parcel::Ack { n })
+    }
+
+    /// An acknowledgement arrives.
+    fn acknowledge(&mut self, uid: u64, address: &Address, n: u64) -> Result<(), NoMemory>
+        ensures { OnOk result (self.new ≡ pumps uid address.now (in_peer uid address.now (with_outbound (kept_acknowledged n)) self.old)) }
+    {
+        self.ack(uid, address, n);
+        self.pump(uid, address)
+    }
+}
+
+/// Tells that a message was taken. Without memory nothing changes.
+fn tell_took(
+    me: &UniqueAddress,
+    origin: &UniqueAddress,
+    n: u64,
+    message: SysMsg,
+    out: &mut Lines,
+) -> Result<(), NoMemory>
+    ensures ok { OnOk result (out.new ≡ out.old ++ lines.Took me.now origin.now n message ∷ []) }
+    ensures err { OnErr result (out.new ≡ out.old) }
+{
+    let of = copy_of_unique(me)?;
+    let other = copy_of_unique(origin)?;
+    out.push(Line::Took {
+        of,
+        other,
+        n,
+        message,
+    })
 }
 
 /// Tells that an incarnation was learnt. Without memory nothing changes.

@@ -1,10 +1,10 @@
-ghost use Rattle.std.specs.Prelude.{◌≡◌, ℕ, ◌<◌, List, [], ◌++◌, length, Option, Some, None, true, find, position, is_some, IfOk, OnOk, OnErr, IfSome};
+ghost use Rattle.std.specs.Prelude.{if◌then◌else◌, ◌≡◌, ℕ, ◌<◌, List, [], ◌++◌, length, Option, Some, None, true, find, position, is_some, IfOk, OnOk, OnErr, IfSome};
 ghost use Rattle.std.specs.Option.{option_copied, option_map};
 ghost use Rattle.artery_delivery.specs.Inbound.{expected_of, taking, with_taken};
 ghost use Rattle.artery_delivery.specs.Outbound.{acceptance, kept_accepted, kept_acknowledged};
 ghost use Rattle.artery_world.specs.Lookup.{change_first};
 ghost use Rattle.artery_world.specs.World.{NodeState, new_node, has_uid, lives_at, is_at};
-ghost use Rattle.artery_world.specs.Step.{with_outbound, learnt_peer, all_written, knows, with_peer, opens, parcels_to};
+ghost use Rattle.artery_world.specs.Step.{with_outbound, learnt_peer, all_written, knows, with_peer, opens, parcels_to, takes_next, counted};
 
 use crate::copies::copy_of_address;
 use crate::event::Parcel;
@@ -116,20 +116,20 @@ impl Node {
         self.open(alloc, other)
     }
 
-    /// Whether the origin is open.
-    pub fn expects(&self, origin: &UniqueAddress) -> bool
-        ensures { result ≡ is_some (expected_of origin.now self.now.inbound) }
+    /// Counts the message with this number, where its origin is open and the number is the expected
+    /// one, and answers whether that is so. Else nothing changes.
+    #[tactic(auto, using(crate::proofs::Taking::not_counted))]
+    pub fn count(&mut self, origin: &UniqueAddress, n: u64) -> bool
+        ensures answer { result ≡ takes_next (Some self.old) origin.now n }
+        ensures counted { self.new ≡ (if result then counted origin.now n self.old else self.old) }
     {
-        self.inbound.knows(origin)
-    }
-
-    /// Takes the message with this number from an open origin, if it is the expected one.
-    pub fn take(&mut self, origin: &UniqueAddress, n: u64) -> Take
-        requires { is_some (expected_of origin.now self.old.inbound) ≡ true }
-        ensures answer { result ≡ taking origin.now n self.old.inbound }
-        ensures inbound { self.new ≡ record self.old { inbound = with_taken origin.now n self.old.inbound } }
-    {
-        self.inbound.take(origin, n)
+        if !self.inbound.knows(origin) {
+            return false;
+        }
+        match self.inbound.take(origin, n) {
+            Take::Taken => true,
+            Take::Again { .. } | Take::Gap { .. } => false,
+        }
     }
 
     /// Accepts a message to the peer at this address, if there is one.
