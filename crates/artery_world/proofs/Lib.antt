@@ -11,3 +11,4 @@ pub mod Telling
 pub mod Places
 pub mod Pumped
 pub mod Taking
+pub mod Arriving

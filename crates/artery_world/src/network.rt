@@ -3,7 +3,7 @@ ghost use Rattle.std.specs.Option.{option_copied, option_map};
 ghost use Rattle.artery_delivery.specs.Outbound.{acceptance, kept_accepted, kept_acknowledged};
 ghost use Rattle.artery_world.specs.Lookup.{Grows};
 ghost use Rattle.artery_world.specs.World.{Net, World, nothing, seen, has_uid, lives_at, node_of, peer_of};
-ghost use Rattle.artery_world.specs.Step.{in_node, in_peer, with_outbound, joins, has_link, puts, pumps, pumps_onto, current_at, opens, with_peer, learnt_peer, learns, links_up, meets, settles, settles_all, pairs_up, arrives_at, takes_next, counted};
+ghost use Rattle.artery_world.specs.Step.{in_node, in_peer, with_outbound, joins, has_link, puts, pumps, pumps_onto, current_at, opens, with_peer, learnt_peer, learns, links_up, meets, settles, settles_all, pairs_up, arrives_at, takes_next, counted, arrives, arrive_all, delivers, delivers_each, passes, passes_times};
 ghost use Rattle.artery_world.specs.declared.line.Line.TheVariants as lines;
 ghost use Rattle.artery_world.specs.declared.event.Parcel.TheVariants as parcels;
 
@@ -332,6 +332,109 @@ impl Network {
     {
         self.ack(uid, address, n);
         self.pump(uid, address)
+    }
+
+    /// A parcel arrives at the end of a link.
+    #[tactic(auto, using(crate::proofs::Arriving::from_nobody, crate::proofs::Arriving::to_nobody, crate::proofs::Arriving::number_arrives, crate::proofs::Arriving::ack_arrives, crate::proofs::Telling::grows_self))]
+    fn arrive(
+        &mut self,
+        from: u64,
+        to: u64,
+        parcel: Parcel,
+        out: &mut Lines,
+    ) -> Result<(), NoMemory>
+        ensures ok { OnOk result (seen self.new out.new ≡ arrives from to parcel (seen self.old out.old)) }
+        ensures grows { Grows out.old out.new }
+    {
+        let Some(sender) = self.node(from) else {
+            return Ok(());
+        };
+        let Some(receiver) = self.node(to) else {
+            return Ok(());
+        };
+        let origin = copy_of_unique(sender.me())?;
+        let me = copy_of_unique(receiver.me())?;
+        match parcel {
+            Parcel::Numbered { n, message } => self.take(&me, &origin, n, message, out),
+            Parcel::Ack { n } => {
+                self.acknowledge(me.uid, &origin.address, n)?;
+                Ok(())
+            }
+        }
+    }
+
+    /// Parcels arrive in order.
+    #[tactic(auto, using(crate::proofs::Telling::grows_self, crate::proofs::Telling::grows_on))]
+    fn arrive_all(
+        &mut self,
+        from: u64,
+        to: u64,
+        parcels: &mut VecDeque<Parcel>,
+        out: &mut Lines,
+    ) -> Result<(), NoMemory>
+        ensures ok { OnOk result (seen self.new out.new ≡ arrive_all from to parcels.old.items (seen self.old out.old)) }
+        ensures grows { Grows out.old out.new }
+    {
+        while let Some(parcel) = parcels.pop_front() {
+            self.arrive(from, to, parcel, out)?;
+        }
+        Ok(())
+    }
+
+    /// A link gives up what it holds.
+    #[tactic(auto, using(crate::proofs::Telling::grows_self))]
+    fn deliver(&mut self, alloc: Global, at: usize, out: &mut Lines) -> Result<(), NoMemory>
+        ensures ok { OnOk result (seen self.new out.new ≡ delivers at (seen self.old out.old)) }
+        ensures grows { Grows out.old out.new }
+    {
+        if at >= self.links.len() {
+            return Ok(());
+        }
+        let link = &mut self.links[at];
+        let from = link.from();
+        let to = link.to();
+        let mut parcels = link.take_all(alloc);
+        self.arrive_all(from, to, &mut parcels, out)
+    }
+
+    /// Every link made so far gives up what it holds, in the order made.
+    #[tactic(auto, using(crate::proofs::Arriving::one_more, crate::proofs::Telling::grows_self, crate::proofs::Telling::grows_on))]
+    fn deliver_each(&mut self, alloc: Global, out: &mut Lines) -> Result<(), NoMemory>
+        ensures ok { OnOk result (seen self.new out.new ≡ delivers_each (seen self.old out.old)) }
+        ensures grows { Grows out.old out.new }
+    {
+        let count = self.links.len();
+        for at in 0..count {
+            self.deliver(alloc, at, out)?;
+        }
+        Ok(())
+    }
+
+    /// One round passes.
+    #[tactic(auto, using(crate::proofs::Telling::grows_on))]
+    fn pass(&mut self, alloc: Global, out: &mut Lines) -> Result<(), NoMemory>
+        ensures ok { OnOk result (seen self.new out.new ≡ passes (seen self.old out.old)) }
+        ensures grows { Grows out.old out.new }
+    {
+        self.pair_up(alloc, out)?;
+        self.deliver_each(alloc, out)
+    }
+
+    /// So many rounds pass.
+    #[tactic(auto, using(crate::proofs::Arriving::one_round_more, crate::proofs::Telling::grows_self, crate::proofs::Telling::grows_on))]
+    pub fn pass_times(
+        &mut self,
+        alloc: Global,
+        rounds: u64,
+        out: &mut Lines,
+    ) -> Result<(), NoMemory>
+        ensures ok { OnOk result (seen self.new out.new ≡ passes_times rounds (seen self.old out.old)) }
+        ensures grows { Grows out.old out.new }
+    {
+        for _round in 0..rounds {
+            self.pass(alloc, out)?;
+        }
+        Ok(())
     }
 }
 
