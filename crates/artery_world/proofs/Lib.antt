@@ -12,3 +12,4 @@ pub mod Places
 pub mod Pumped
 pub mod Taking
 pub mod Arriving
+pub mod Asking

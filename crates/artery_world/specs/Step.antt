@@ -132,6 +132,13 @@ asks n address net =
     if knows address n then net
     else record (in_node n.me.uid (with_peer address) net) { pending = net.pending ++ record { asker = n.me.uid; address = address } ∷ [] }
 
+-- the same, by what is found under a UID
+abbrev pub asks_at : ℕ → Option NodeState → Address → Net → Net
+asks_at uid None address net = net
+asks_at uid (Some n) address net =
+    if knows address n then net
+    else record (in_node uid (with_peer address) net) { pending = net.pending ++ record { asker = uid; address = address } ∷ [] }
+
 abbrev pub unique_at : Address → ℕ → UniqueAddress
 unique_at address uid = record { address = address; uid = uid }
 

@@ -3,11 +3,11 @@ ghost use Rattle.std.specs.Option.{option_copied, option_map};
 ghost use Rattle.artery_delivery.specs.Outbound.{acceptance, kept_accepted, kept_acknowledged};
 ghost use Rattle.artery_world.specs.Lookup.{Grows};
 ghost use Rattle.artery_world.specs.World.{Net, World, nothing, seen, has_uid, lives_at, node_of, peer_of};
-ghost use Rattle.artery_world.specs.Step.{in_node, in_peer, with_outbound, joins, has_link, puts, pumps, pumps_onto, current_at, opens, with_peer, learnt_peer, learns, links_up, meets, settles, settles_all, pairs_up, arrives_at, takes_next, counted, arrives, arrive_all, delivers, delivers_each, passes, passes_times};
+ghost use Rattle.artery_world.specs.Step.{in_node, in_peer, with_outbound, joins, has_link, puts, pumps, pumps_onto, current_at, opens, with_peer, learnt_peer, learns, links_up, meets, settles, settles_all, pairs_up, arrives_at, takes_next, counted, arrives, arrive_all, delivers, delivers_each, passes, passes_times, asks_at};
 ghost use Rattle.artery_world.specs.declared.line.Line.TheVariants as lines;
 ghost use Rattle.artery_world.specs.declared.event.Parcel.TheVariants as parcels;
 
-use crate::copies::copy_of_unique;
+use crate::copies::{copy_of_address, copy_of_unique};
 use crate::event::{Parcel, Pending};
 use crate::line::Line;
 use crate::lines::Lines;
@@ -434,6 +434,27 @@ impl Network {
         for _round in 0..rounds {
             self.pass(alloc, out)?;
         }
+        Ok(())
+    }
+
+    /// Makes a peer of an address that is new to an incarnation, and a pair to be made.
+    #[tactic(auto, using(crate::proofs::Asking::asks_known, crate::proofs::Asking::asks_new, crate::proofs::Asking::asks_nobody))]
+    fn ask(&mut self, uid: u64, address: &Address) -> Result<(), NoMemory>
+        ensures { OnOk result (self.new ≡ asks_at uid (node_of uid self.old) address.now self.old) }
+    {
+        let Some(at) = self.node_at(uid) else {
+            return Ok(());
+        };
+        let node = &mut self.live[at];
+        if node.knows(address) {
+            return Ok(());
+        }
+        node.make_peer(address)?;
+        let address = copy_of_address(address)?;
+        self.pending.push_back(Pending {
+            asker: uid,
+            address,
+        })?;
         Ok(())
     }
 }

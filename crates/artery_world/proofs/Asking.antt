@@ -1,0 +1,83 @@
+-- Requests, by the place of the incarnation that is asked.
+use Rattle.std.proofs.Common.{◌≡◌, ℕ, zero, suc, ◌+◌, Bool, true, false, cond, List, [], ◌∷◌, ◌++◌, length, get_or, set, refl, sym, ◌∙◌, ap, subst, arith, rules}
+use Rattle.std.specs.Prelude.{Option, None, Some, position, find, Result, Ok, Err, is_some}
+use Rattle.std.specs.Option.{option_map}
+use Rattle.std.specs.Cmp.Rules.{comparing}
+use Rattle.std.proofs.lemmas.Bool.Decides.{nat_tests}
+use Rattle.artery_base.specs.declared.address.Address.{Address}
+use Rattle.artery_base.specs.declared.address.UniqueAddress.{UniqueAddress}
+use Rattle.artery_base.specs.declared.message.SysMsg.{SysMsg}
+use Rattle.artery_delivery.specs.Outbound.{acceptance, kept_accepted}
+use Rattle.artery_delivery.specs.declared.outbound.Accept.{Accept}
+use Rattle.artery_delivery.specs.declared.outbound.Accept.TheVariants.{Accepted, Waiting, Overflow}
+use Rattle.artery_world.specs.declared.event.Pending.{Pending}
+use Rattle.artery_world.specs.declared.fault.WorldFault.{WorldFault}
+use Rattle.artery_world.specs.declared.fault.WorldFault.TheVariants.{NotAllowed, Limit}
+use Rattle.artery_world.specs.declared.fault.WorldLimit.TheVariants as limits
+use Rattle.artery_world.specs.declared.line.Line.{Line}
+use Rattle.artery_world.specs.declared.line.Line.TheVariants.{Sent}
+use Rattle.artery_world.specs.World.{PeerState, NodeState, Net, World, seen, has_uid, is_at, node_of, peer_of, same_address}
+use Rattle.artery_world.specs.Step.{on_net, in_node, in_peer, with_outbound, pumps, knows, with_peer, asks, asks_at, unique_at, current_at, sends_to, sends_over, sends}
+use Rattle.artery_world.proofs.Lists.{find_passes, by_option}
+use Rattle.artery_world.proofs.Places.{set_is_change, place_is_found, no_place, change_nothing}
+use Rattle.artery_world.proofs.Taking.{same_live}
+
+address_is : (a b : Address) → same_address a b ≡ true → a ≡ b
+address_is a b h = search (comparing, rules)
+
+-- the address is known: nothing changes
+pub asks_known : (uid : ℕ) (n : NodeState) (address : Address) (net : Net) (i : ℕ) → position (has_uid uid) net.live ≡ Some i → n ≡ get_or net.live i n → knows address n ≡ true → record net { live = set net.live i n } ≡ asks_at uid (node_of uid net) address net
+asks_known uid n address net i at e h =
+    same_live net i n e
+    ∙ sym (ap (λ o. asks_at uid o address net) (place_is_found (has_uid uid) net.live i n at e)
+    ∙ ap (λ (b : Bool). cond b net (record (in_node uid (with_peer address) net) { pending = net.pending ++ record { asker = uid; address = address } ∷ [] })) h)
+
+-- the address is new: the peer is made and the pair asked for
+pub asks_new : (uid : ℕ) (n c : NodeState) (address : Address) (net : Net) (pending : List Pending) (i : ℕ) → position (has_uid uid) net.live ≡ Some i → n ≡ get_or net.live i n → knows address n ≡ false → c ≡ with_peer address n
+    → pending ≡ net.pending ++ record { asker = uid; address = address } ∷ [] → record net { live = set net.live i c; pending = pending } ≡ asks_at uid (node_of uid net) address net
+asks_new uid n c address net pending i at e h ce pe =
+    ap (λ live. record net { live = live; pending = pending }) (set_is_change (has_uid uid) (with_peer address) net.live i n c at e ce)
+    ∙ ap (λ ps. record (in_node uid (with_peer address) net) { pending = ps }) pe
+    ∙ sym (ap (λ o. asks_at uid o address net) (place_is_found (has_uid uid) net.live i n at e)
+    ∙ ap (λ (b : Bool). cond b net (record (in_node uid (with_peer address) net) { pending = net.pending ++ record { asker = uid; address = address } ∷ [] })) h)
+
+pub asks_nobody : (uid : ℕ) (address : Address) (net : Net) → position (has_uid uid) net.live ≡ None → net ≡ asks_at uid (node_of uid net) address net
+asks_nobody uid address net h = sym (ap (λ o. asks_at uid o address net) (no_place (has_uid uid) net.live h))
+
+-- the peer of an incarnation stands at the address under which it was found
+pub peer_address : (uid : ℕ) (address : Address) (net : Net) (p : PeerState) → peer_of uid address net ≡ Some p → p.address ≡ address
+peer_address uid address net p h = by (node_of uid net) h
+  where
+    by : (o : Option NodeState) → (elim o as (λ _. Option PeerState) [ None ↦ None | Some n ↦ find (is_at address) n.peers ]) ≡ Some p → p.address ≡ address
+    by None g = cc
+    by (Some n) g = address_is p.address address (find_passes (is_at address) n.peers p g)
+
+-- ---- what sending comes to, by the answer and the UID that is learnt
+
+pub sends_nobody : (me : UniqueAddress) (address : Address) (m : SysMsg) (w : World) → peer_of me.uid address w.net ≡ None → sends me address m w ≡ Ok w
+sends_nobody me address m w h = ap (λ o. sends_over me o m w) h
+
+pub sends_waits : (me : UniqueAddress) (address : Address) (m : SysMsg) (w : World) (p : PeerState) (place : ℕ) → peer_of me.uid address w.net ≡ Some p → acceptance m p.outbound ≡ Waiting place
+    → sends me address m w ≡ Ok (on_net (in_peer me.uid address (with_outbound (kept_accepted m))) w)
+sends_waits me address m w p place h a =
+    ap (λ o. sends_over me o m w) h ∙ ap (λ t. sends_to me p m t w) a
+    ∙ ap (λ (d : Address). Ok (on_net (in_peer me.uid d (with_outbound (kept_accepted m))) w)) (peer_address me.uid address w.net p h)
+
+pub sends_too_many : (me : UniqueAddress) (address : Address) (m back : SysMsg) (w : World) (p : PeerState) → peer_of me.uid address w.net ≡ Some p → acceptance m p.outbound ≡ Overflow back → sends me address m w ≡ Err (Limit limits.Kept)
+sends_too_many me address m back w p h a = ap (λ o. sends_over me o m w) h ∙ ap (λ t. sends_to me p m t w) a
+
+pub sends_unlearnt : (me : UniqueAddress) (address : Address) (m : SysMsg) (w : World) (p : PeerState) (n : ℕ) → peer_of me.uid address w.net ≡ Some p → acceptance m p.outbound ≡ Accepted n → p.current ≡ None
+    → sends me address m w ≡ Ok (on_net (pumps me.uid address) (on_net (in_peer me.uid address (with_outbound (kept_accepted m))) w))
+sends_unlearnt me address m w p n h a c =
+    ap (λ o. sends_over me o m w) h ∙ ap (λ t. sends_to me p m t w) a
+    ∙ ap (λ cur. sends_to me (record p { current = cur }) m (Accepted n) w) c
+    ∙ ap (λ (d : Address). Ok (on_net (pumps me.uid d) (on_net (in_peer me.uid d (with_outbound (kept_accepted m))) w))) (peer_address me.uid address w.net p h)
+
+pub sends_told : (me : UniqueAddress) (address : Address) (m : SysMsg) (net : Net) (lines told : List Line) (p : PeerState) (n uid : ℕ) → peer_of me.uid address net ≡ Some p → acceptance m p.outbound ≡ Accepted n → p.current ≡ Some uid
+    → told ≡ lines ++ Sent me (unique_at address uid) n m ∷ []
+    → sends me address m (seen net lines) ≡ Ok (seen (pumps me.uid address (in_peer me.uid address (with_outbound (kept_accepted m)) net)) told)
+sends_told me address m net lines told p n uid h a c t =
+    ap (λ o. sends_over me o m (seen net lines)) h ∙ ap (λ x. sends_to me p m x (seen net lines)) a
+    ∙ ap (λ cur. sends_to me (record p { current = cur }) m (Accepted n) (seen net lines)) c
+    ∙ ap (λ (d : Address). Ok (seen (pumps me.uid d (in_peer me.uid d (with_outbound (kept_accepted m)) net)) (lines ++ Sent me (unique_at d uid) n m ∷ []))) (peer_address me.uid address net p h)
+    ∙ ap (λ ls. Ok (seen (pumps me.uid address (in_peer me.uid address (with_outbound (kept_accepted m)) net)) ls)) (sym t)
