@@ -17,7 +17,7 @@ use Rattle.artery_world.specs.declared.fault.WorldLimit.TheVariants as limits
 use Rattle.artery_world.specs.declared.line.Line.{Line}
 use Rattle.artery_world.specs.declared.line.Line.TheVariants.{Sent}
 use Rattle.artery_world.specs.World.{PeerState, NodeState, Net, World, seen, has_uid, is_at, node_of, peer_of, same_address}
-use Rattle.artery_world.specs.Step.{on_net, in_node, in_peer, with_outbound, pumps, knows, with_peer, asks, asks_at, unique_at, current_at, sends_to, sends_over, sends}
+use Rattle.artery_world.specs.Step.{on_net, in_node, in_peer, with_outbound, pumps, knows, with_peer, asks, asks_at, unique_at, told_accepted, current_at, sends_to, sends_over, sends}
 use Rattle.artery_world.proofs.Lists.{find_passes, by_option}
 use Rattle.artery_world.proofs.Places.{set_is_change, place_is_found, no_place, change_nothing}
 use Rattle.artery_world.proofs.Taking.{same_live}
@@ -44,6 +44,13 @@ asks_new uid n c address net pending i at e h ce pe =
 pub asks_nobody : (uid : ℕ) (address : Address) (net : Net) → position (has_uid uid) net.live ≡ None → net ≡ asks_at uid (node_of uid net) address net
 asks_nobody uid address net h = sym (ap (λ o. asks_at uid o address net) (no_place (has_uid uid) net.live h))
 
+-- asking by the incarnation itself and by what is found under its UID is the same
+pub asks_as : (uid : ℕ) (me : UniqueAddress) (n : NodeState) (address : Address) (net : Net) → node_of uid net ≡ Some n → me ≡ n.me → asks_at me.uid (node_of me.uid net) address net ≡ asks n address net
+asks_as uid me n address net h e =
+    let is : n.me.uid ≡ uid = (let t : has_uid uid n ≡ true = find_passes (has_uid uid) net.live n h in grind (arith, nat_tests)) in
+    ap (λ (x : UniqueAddress). asks_at x.uid (node_of x.uid net) address net) e
+    ∙ ap (λ o. asks_at n.me.uid o address net) (ap (λ (u : ℕ). node_of u net) is ∙ h)
+
 -- the peer of an incarnation stands at the address under which it was found
 pub peer_address : (uid : ℕ) (address : Address) (net : Net) (p : PeerState) → peer_of uid address net ≡ Some p → p.address ≡ address
 peer_address uid address net p h = by (node_of uid net) h
@@ -66,18 +73,12 @@ sends_waits me address m w p place h a =
 pub sends_too_many : (me : UniqueAddress) (address : Address) (m back : SysMsg) (w : World) (p : PeerState) → peer_of me.uid address w.net ≡ Some p → acceptance m p.outbound ≡ Overflow back → sends me address m w ≡ Err (Limit limits.Kept)
 sends_too_many me address m back w p h a = ap (λ o. sends_over me o m w) h ∙ ap (λ t. sends_to me p m t w) a
 
-pub sends_unlearnt : (me : UniqueAddress) (address : Address) (m : SysMsg) (w : World) (p : PeerState) (n : ℕ) → peer_of me.uid address w.net ≡ Some p → acceptance m p.outbound ≡ Accepted n → p.current ≡ None
-    → sends me address m w ≡ Ok (on_net (pumps me.uid address) (on_net (in_peer me.uid address (with_outbound (kept_accepted m))) w))
-sends_unlearnt me address m w p n h a c =
-    ap (λ o. sends_over me o m w) h ∙ ap (λ t. sends_to me p m t w) a
-    ∙ ap (λ cur. sends_to me (record p { current = cur }) m (Accepted n) w) c
-    ∙ ap (λ (d : Address). Ok (on_net (pumps me.uid d) (on_net (in_peer me.uid d (with_outbound (kept_accepted m))) w))) (peer_address me.uid address w.net p h)
-
-pub sends_told : (me : UniqueAddress) (address : Address) (m : SysMsg) (net : Net) (lines told : List Line) (p : PeerState) (n uid : ℕ) → peer_of me.uid address net ≡ Some p → acceptance m p.outbound ≡ Accepted n → p.current ≡ Some uid
-    → told ≡ lines ++ Sent me (unique_at address uid) n m ∷ []
-    → sends me address m (seen net lines) ≡ Ok (seen (pumps me.uid address (in_peer me.uid address (with_outbound (kept_accepted m)) net)) told)
-sends_told me address m net lines told p n uid h a c t =
-    ap (λ o. sends_over me o m (seen net lines)) h ∙ ap (λ x. sends_to me p m x (seen net lines)) a
-    ∙ ap (λ cur. sends_to me (record p { current = cur }) m (Accepted n) (seen net lines)) c
-    ∙ ap (λ (d : Address). Ok (seen (pumps me.uid d (in_peer me.uid d (with_outbound (kept_accepted m)) net)) (lines ++ Sent me (unique_at d uid) n m ∷ []))) (peer_address me.uid address net p h)
-    ∙ ap (λ ls. Ok (seen (pumps me.uid address (in_peer me.uid address (with_outbound (kept_accepted m)) net)) ls)) (sym t)
+pub sends_accepted : (me : UniqueAddress) (address : Address) (m : SysMsg) (w : World) (p : PeerState) (n : ℕ) → peer_of me.uid address w.net ≡ Some p → acceptance m p.outbound ≡ Accepted n
+    → sends me address m w ≡ Ok (on_net (pumps me.uid address) (told_accepted me address p.current n m (on_net (in_peer me.uid address (with_outbound (kept_accepted m))) w)))
+sends_accepted me address m w p n h a =
+    ap (λ o. sends_over me o m w) h ∙ ap (λ t. sends_to me p m t w) a ∙ by p.current
+    ∙ ap (λ (d : Address). Ok (on_net (pumps me.uid d) (told_accepted me d p.current n m (on_net (in_peer me.uid d (with_outbound (kept_accepted m))) w)))) (peer_address me.uid address w.net p h)
+  where
+    by : (c : Option ℕ) → sends_to me (record p { current = c }) m (Accepted n) w ≡ Ok (on_net (pumps me.uid p.address) (told_accepted me p.address c n m (on_net (in_peer me.uid p.address (with_outbound (kept_accepted m))) w)))
+    by None = refl
+    by (Some uid) = refl

@@ -142,6 +142,11 @@ asks_at uid (Some n) address net =
 abbrev pub unique_at : Address → ℕ → UniqueAddress
 unique_at address uid = record { address = address; uid = uid }
 
+-- an accepted message is told as sent to the UID that is learnt
+abbrev pub told_accepted : UniqueAddress → Address → Option ℕ → ℕ → SysMsg → World → World
+told_accepted me address None n message w = w
+told_accepted me address (Some uid) n message w = tells (Sent me (unique_at address uid) n message ∷ []) w
+
 -- an accepted message is told with its number, and pumped; one that waits is told later; one too many ends the run
 abbrev pub sends_to : UniqueAddress → PeerState → SysMsg → Accept → World → Result World WorldFault
 sends_to me p message (Overflow back) w = Err (Limit limits.Kept)
@@ -282,12 +287,16 @@ passes_times (suc k) w = passes (passes_times k w)
 
 -- ---- events
 
+-- an incarnation is added, and its start told
+abbrev pub started : UniqueAddress → World → World
+started unique w = tells (Started unique ∷ []) (on_net (λ net. record net { started = net.started ++ unique.uid ∷ []; live = net.live ++ new_node unique ∷ [] }) w)
+
 abbrev pub starts : UniqueAddress → World → Result World WorldFault
 starts unique w =
     if list_any (λ uid. uid == unique.uid) w.net.started then Err (NotAllowed UsedUid)
     else if list_any (lives_at unique.address) w.net.live then Err (NotAllowed AddressLive)
     else if nat_lt (length w.net.live) MOST_NODES
-    then Ok (tells (Started unique ∷ []) (on_net (λ net. record net { started = net.started ++ unique.uid ∷ []; live = net.live ++ new_node unique ∷ [] }) w))
+    then Ok (started unique w)
     else Err (Limit limits.Nodes)
 
 abbrev pub named : Request → Address

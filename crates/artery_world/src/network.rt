@@ -3,18 +3,20 @@ ghost use Rattle.std.specs.Option.{option_copied, option_map};
 ghost use Rattle.artery_delivery.specs.Outbound.{acceptance, kept_accepted, kept_acknowledged};
 ghost use Rattle.artery_world.specs.Lookup.{Grows};
 ghost use Rattle.artery_world.specs.World.{Net, World, nothing, seen, has_uid, lives_at, node_of, peer_of};
-ghost use Rattle.artery_world.specs.Step.{in_node, in_peer, with_outbound, joins, has_link, puts, pumps, pumps_onto, current_at, opens, with_peer, learnt_peer, learns, links_up, meets, settles, settles_all, pairs_up, arrives_at, takes_next, counted, arrives, arrive_all, delivers, delivers_each, passes, passes_times, asks_at};
+ghost use Rattle.artery_world.specs.Step.{in_node, in_peer, with_outbound, joins, has_link, puts, pumps, pumps_onto, current_at, opens, with_peer, learnt_peer, learns, links_up, meets, settles, settles_all, pairs_up, arrives_at, takes_next, counted, arrives, arrive_all, delivers, delivers_each, passes, passes_times, asks_at, unique_at, told_accepted, on_net, sends, starts, started, named, asked, Happens};
 ghost use Rattle.artery_world.specs.declared.line.Line.TheVariants as lines;
 ghost use Rattle.artery_world.specs.declared.event.Parcel.TheVariants as parcels;
 
-use crate::copies::{copy_of_address, copy_of_unique};
+use crate::copies::{copy_of_address, copy_of_message, copy_of_unique};
 use crate::event::{Parcel, Pending};
+use crate::fault::{Why, WorldFault, WorldLimit};
 use crate::line::Line;
 use crate::lines::Lines;
 use crate::link::Link;
 use crate::node::Node;
-use crate::peer::Peer;
-use artery_base::{Address, NoMemory, SysMsg, UniqueAddress};
+use crate::peer::{Peer, tell_sent};
+use crate::world::MOST_NODES;
+use artery_base::{Address, NoMemory, Request, SysMsg, UniqueAddress};
 use artery_delivery::Accept;
 use std::alloc::Global;
 use std::collections::VecDeque;
@@ -457,6 +459,154 @@ impl Network {
         })?;
         Ok(())
     }
+
+    /// Tells an accepted message as sent to the UID that is learnt, and pumps.
+    #[tactic(auto, using(crate::proofs::Telling::grows_self, crate::proofs::Telling::grows_push))]
+    fn tell_accepted(
+        &mut self,
+        me: &UniqueAddress,
+        address: &Address,
+        current: Option<u64>,
+        n: u64,
+        message: &SysMsg,
+        out: &mut Lines,
+    ) -> Result<(), NoMemory>
+        ensures ok { OnOk result (seen self.new out.new ≡ on_net (pumps me.now.uid address.now) (told_accepted me.now address.now current n message.now (seen self.old out.old))) }
+        ensures grows { Grows out.old out.new }
+    {
+        if let Some(uid) = current {
+            let other = unique_at(address, uid)?;
+            tell_sent(me, &other, n, message, out)?;
+            return self.pump(me.uid, address);
+        }
+        self.pump(me.uid, address)
+    }
+
+    /// Sends a message to the peer at an address.
+    #[tactic(auto, using(crate::proofs::Asking::sends_nobody, crate::proofs::Asking::sends_waits, crate::proofs::Asking::sends_too_many, crate::proofs::Asking::sends_accepted, crate::proofs::Telling::grows_self))]
+    fn send(
+        &mut self,
+        alloc: Global,
+        me: &UniqueAddress,
+        address: &Address,
+        message: SysMsg,
+        out: &mut Lines,
+    ) -> Result<(), WorldFault>
+        ensures happens { Happens result (seen self.new out.new) (sends me.now address.now message (seen self.old out.old)) }
+        ensures grows { Grows out.old out.new }
+    {
+        let Some(peer) = self.peer(me.uid, address) else {
+            return Ok(());
+        };
+        let current = peer.current();
+        let told = copy_of_message(&message)?;
+        match self.accept(alloc, me.uid, address, message)? {
+            None => Ok(()),
+            Some(Accept::Waiting { .. }) => Ok(()),
+            Some(Accept::Overflow(_)) => Err(WorldFault::Limit {
+                which: WorldLimit::Kept,
+            }),
+            Some(Accept::Accepted { n }) => {
+                self.tell_accepted(me, address, current, n, &told, out)?;
+                Ok(())
+            }
+        }
+    }
+
+    /// An incarnation starts.
+    #[tactic(auto, using(crate::proofs::Telling::grows_self, crate::proofs::Telling::grows_push))]
+    pub fn start(
+        &mut self,
+        alloc: Global,
+        unique: UniqueAddress,
+        out: &mut Lines,
+    ) -> Result<(), WorldFault>
+        ensures happens { Happens result (seen self.new out.new) (starts unique (seen self.old out.old)) }
+        ensures grows { Grows out.old out.new }
+    {
+        let uid = unique.uid;
+        if self.started.iter().any(|started| *started == uid) {
+            return Err(WorldFault::NotAllowed { why: Why::UsedUid });
+        }
+        if self.live.iter().any(|n| n.lives_at(&unique.address)) {
+            return Err(WorldFault::NotAllowed {
+                why: Why::AddressLive,
+            });
+        }
+        if self.live.len() >= MOST_NODES {
+            return Err(WorldFault::Limit {
+                which: WorldLimit::Nodes,
+            });
+        }
+        self.add(alloc, unique, out)?;
+        Ok(())
+    }
+
+    /// Adds an incarnation, and tells that it started.
+    #[tactic(auto, using(crate::proofs::Telling::grows_self, crate::proofs::Telling::grows_push))]
+    fn add(&mut self, alloc: Global, unique: UniqueAddress, out: &mut Lines) -> Result<(), NoMemory>
+        ensures ok { OnOk result (seen self.new out.new ≡ started unique (seen self.old out.old)) }
+        ensures grows { Grows out.old out.new }
+    {
+        let of = copy_of_unique(&unique)?;
+        self.started.push(unique.uid)?;
+        self.live.push(Node::new(alloc, unique))?;
+        out.push(Line::Started { of })?;
+        Ok(())
+    }
+
+    /// An incarnation is asked something.
+    #[tactic(auto, using(crate::proofs::Asking::asks_as, crate::proofs::Telling::grows_self))]
+    pub fn request(
+        &mut self,
+        alloc: Global,
+        uid: u64,
+        request: Request,
+        out: &mut Lines,
+    ) -> Result<(), WorldFault>
+        ensures happens { Happens result (seen self.new out.new) (asked (node_of uid self.old) request (seen self.old out.old)) }
+        ensures grows { Grows out.old out.new }
+    {
+        let Some(node) = self.node(uid) else {
+            return Err(WorldFault::NotAllowed { why: Why::NotLive });
+        };
+        if node.lives_at(named(&request)) {
+            return Err(WorldFault::NotAllowed {
+                why: Why::OwnAddress,
+            });
+        }
+        let me = copy_of_unique(node.me())?;
+        match request {
+            Request::Pair { address } => {
+                self.ask(me.uid, &address)?;
+                Ok(())
+            }
+            Request::Send { address, message } => {
+                self.ask(me.uid, &address)?;
+                self.send(alloc, &me, &address, message, out)
+            }
+        }
+    }
+}
+
+/// The address that a request names.
+fn named(request: &Request) -> &Address
+    ensures { result.now ≡ named request.now }
+{
+    match request {
+        Request::Pair { address } => address,
+        Request::Send { address, .. } => address,
+    }
+}
+
+/// The incarnation with this UID at this address.
+fn unique_at(address: &Address, uid: u64) -> Result<UniqueAddress, NoMemory>
+    ensures { IfOk result (λ unique. unique ≡ unique_at address.now uid) }
+{
+    Ok(UniqueAddress {
+        address: copy_of_address(address)?,
+        uid,
+    })
 }
 
 /// Tells that a message was taken. Without memory nothing changes.
