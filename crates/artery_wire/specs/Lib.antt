@@ -1,3 +1,5 @@
 pub mod Fault
 pub mod Record
+pub mod FirstFault
 pub mod Reading
+pub mod Reader

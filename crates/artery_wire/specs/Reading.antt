@@ -59,15 +59,16 @@ field_at bytes =
 abbrev pub with_first : {X : Type 0} → X → List X × Option WireFault → List X × Option WireFault
 with_first x read = (x ∷ read.0, read.1)
 
--- One after the other, at most so many, from a place on.
+-- what is read from a place on: an item and what comes after it, or the fault
+abbrev pub goes_on : {X : Type 0} → ℕ → ℕ → Result (X × List ℕ) FaultKind → (ℕ → List ℕ → List X × Option WireFault) → List X × Option WireFault
+goes_on len place (Ok x) others = with_first x.0 (others (place + (len - length x.1)) x.1)
+goes_on len place (Err kind) others = ([], Some (fault_at kind place))
+
+-- one after the other, at most so many, from a place on
 unfoldable pub all_within : {X : Type 0} → (List ℕ → Result (X × List ℕ) FaultKind) → ℕ → ℕ → List ℕ → List X × Option WireFault
 all_within one zero place bytes = ([], None)
 all_within one (suc n) place [] = ([], None)
-all_within one (suc n) place (b ∷ bs) =
-    elim (one (b ∷ bs)) [
-      | Ok x ↦ with_first x.0 (all_within one n (place + (length (b ∷ bs) - length x.1)) x.1)
-      | Err kind ↦ ([], Some (fault_at kind place))
-    ]
+all_within one (suc n) place (b ∷ bs) = goes_on (length (b ∷ bs)) place (one (b ∷ bs)) (λ after rest. all_within one n after rest)
 
 -- all fields of the bytes, or those before the first fault and that fault
 abbrev pub fields_of : List ℕ → List FieldOf × Option WireFault

@@ -38,20 +38,26 @@ digits_sum [] = 0
 digits_sum (b ∷ bs) = b % 128 + 128 * digits_sum bs
 
 -- A varint is one to ten bytes of which all but the last have the high bit. It stands for its sum modulo 2 ^ 64.
-pub record IsVarint (bytes : List ℕ) (n : ℕ) : Type 0 where
+pub record IsVarint (n : ℕ) (bytes : List ℕ) : Type 0 where
   pub continues : Continues bytes
   pub ten : length bytes ≤ 10
   pub value : n ≡ digits_sum bytes % 2 ^ 64
 
+-- a varint, and so many bytes after it
+pub record IsPayload (payload bytes : List ℕ) : Type 0 where
+  pub size : List ℕ
+  pub size_is : IsVarint (length payload) size
+  pub parts : bytes ≡ size ++ payload
+
 -- Bytes of this wire type that stand for this value: 0 a varint, 1 eight bytes from the lowest,
 -- 2 a varint and so many bytes, 5 four bytes from the lowest.
 abbrev pub IsValue : ℕ → ValueOf → List ℕ → Type 0
-IsValue kind (Varint n) bytes = (kind ≡ 0) × IsVarint bytes n
+IsValue kind (Varint n) bytes = (kind ≡ 0) × IsVarint n bytes
 IsValue kind (Fixed64 n) bytes = (kind ≡ 1) × (length bytes ≡ 8) × (n ≡ from_le_bytes w64 bytes)
-IsValue kind (Bytes payload) bytes = (kind ≡ 2) × ((size : List ℕ) × IsVarint size (length payload) × (bytes ≡ size ++ payload))
+IsValue kind (Bytes payload) bytes = (kind ≡ 2) × IsPayload payload bytes
 IsValue kind (Fixed32 n) bytes = (kind ≡ 5) × (length bytes ≡ 4) × (n ≡ from_le_bytes w32 bytes)
 
--- the largest number of a field
+-- the largest number of a field; the smallest is 1
 abbrev pub max_number : ℕ
 max_number = 536870911
 
@@ -61,17 +67,20 @@ pub record IsField (f : FieldOf) (bytes : List ℕ) : Type 0 where
   pub key : List ℕ
   pub rest : List ℕ
   pub parts : bytes ≡ key ++ rest
-  pub key_is : IsVarint key (f.number * 8 + kind)
+  pub key_is : IsVarint (f.number * 8 + kind) key
   pub above : 1 ≤ f.number
   pub below : f.number ≤ max_number
   pub value_is : IsValue kind f.value rest
 
+-- the bytes are those of the items, one after the other
+abbrev pub OneAfterOther : {X : Type 0} → (X → List ℕ → Type 0) → List X → List ℕ → Type 0
+OneAfterOther Is [] bytes = bytes ≡ []
+OneAfterOther Is (x ∷ xs) bytes = (front : List ℕ) × (rest : List ℕ) × (bytes ≡ front ++ rest) × Is x front × OneAfterOther Is xs rest
+
 -- A list of fields stands for bytes where the bytes are its fields one after the other.
 abbrev pub StandFor : List FieldOf → List ℕ → Type 0
-StandFor [] bytes = bytes ≡ []
-StandFor (f ∷ fs) bytes = (front : List ℕ) × (rest : List ℕ) × (bytes ≡ front ++ rest) × IsField f front × StandFor fs rest
+StandFor = OneAfterOther IsField
 
 -- A list of numbers stands for the bytes of a packed field where the bytes are their varints one after the other.
 abbrev pub ArePacked : List ℕ → List ℕ → Type 0
-ArePacked [] bytes = bytes ≡ []
-ArePacked (n ∷ ns) bytes = (front : List ℕ) × (rest : List ℕ) × (bytes ≡ front ++ rest) × IsVarint front n × ArePacked ns rest
+ArePacked = OneAfterOther IsVarint
