@@ -3,3 +3,5 @@ pub mod Record
 pub mod FirstFault
 pub mod Reading
 pub mod Reader
+pub mod Writing
+pub mod Laws

@@ -1,6 +1,7 @@
 ghost use Rattle.std.specs.Prelude.{◌≡◌, ◌≤◌, length, None};
 ghost use Rattle.artery_wire.specs.Fault.{fault_at};
 ghost use Rattle.artery_wire.specs.Record.{field_of};
+ghost use Rattle.artery_wire.specs.Reading.{fields_of, numbers_of};
 ghost use Rattle.artery_wire.specs.Reader.{reader_of, fields_left, numbers_left, IsNext, moved_to, stopped_by};
 
 use crate::fault::{FaultKind, WireFault};
@@ -19,7 +20,8 @@ pub struct Cursor<'a> {
 
 impl<'a> Model for Cursor<'a> {
     ghost use Rattle.std.specs.Prelude.{◌+◌, ◌<◌, ◌^◌, length};
-    ghost use Rattle.artery_wire.specs.Reader.{Reader};
+    ghost use Rattle.artery_wire.specs.Reading.{fields_of, numbers_of};
+ghost use Rattle.artery_wire.specs.Reader.{Reader};
 
     ghost Value = { Reader };
 
@@ -30,8 +32,11 @@ impl<'a> Model for Cursor<'a> {
 
 impl<'a> Cursor<'a> {
     /// A cursor at the first of the bytes.
+    #[tactic(auto, unfolding(crate::specs::Reader::fields_left, crate::specs::Reader::numbers_left))]
     pub fn new(bytes: &'a [u8]) -> Cursor<'a>
-        ensures { result ≡ reader_of bytes.now }
+        ensures start { result ≡ reader_of bytes.now }
+        ensures fields { fields_left result ≡ fields_of bytes.now }
+        ensures numbers { numbers_left result ≡ numbers_of bytes.now }
     {
         Cursor {
             rest: bytes,

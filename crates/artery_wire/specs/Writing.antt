@@ -1,0 +1,44 @@
+-- The shortest bytes of a field.
+use Rattle.std.specs.Prelude.{◌≡◌, ℕ, zero, suc, ◌+◌, ◌*◌, ◌/◌, ◌%◌, ◌^◌, ◌<◌, ◌≤◌, List, [], ◌∷◌, ◌++◌, length, take, nat_lt, if◌then◌else◌}
+use Rattle.std.specs.Int.{w32, w64, to_le_bytes}
+use Rattle.std.specs.List.{flat_map}
+use Rattle.artery_wire.specs.Record.{ValueOf, Varint, Fixed64, Bytes, Fixed32, FieldOf, max_number}
+
+-- the digits of a number to base 128 from the lowest, at most so many, all but the last with the high bit
+unfoldable pub digits_within : ℕ → ℕ → List ℕ
+digits_within zero n = []
+digits_within (suc left) n = if nat_lt n 128 then n ∷ [] else (n % 128 + 128) ∷ digits_within left (n / 128)
+
+-- the shortest varint of a number below 2 ^ 64
+unfoldable pub varint_of : ℕ → List ℕ
+varint_of n = digits_within 10 n
+
+-- the numbers that a field may have
+abbrev pub IsNumber : ℕ → Type 0
+IsNumber n = (1 ≤ n) × (n ≤ max_number)
+
+-- the key of this number and wire type, and its value
+abbrev pub field_bytes : FieldOf → List ℕ
+field_bytes f =
+    elim f.value [
+      | Varint n ↦ varint_of (f.number * 8 + 0) ++ varint_of n
+      | Fixed64 n ↦ varint_of (f.number * 8 + 1) ++ to_le_bytes w64 n
+      | Bytes payload ↦ varint_of (f.number * 8 + 2) ++ (varint_of (length payload) ++ payload)
+      | Fixed32 n ↦ varint_of (f.number * 8 + 5) ++ to_le_bytes w32 n
+    ]
+
+-- the fields one after the other, each in its shortest form
+abbrev pub record_bytes : List FieldOf → List ℕ
+record_bytes fs = flat_map field_bytes fs
+
+-- a field whose value is a number
+abbrev pub uint_field : ℕ → ℕ → FieldOf
+uint_field number n = record { number = number; value = Varint n }
+
+-- a field whose value is a payload
+abbrev pub bytes_field : ℕ → List ℕ → FieldOf
+bytes_field number payload = record { number = number; value = Bytes payload }
+
+-- new begins with all of old
+abbrev pub BeginsWith : List ℕ → List ℕ → Type 0
+BeginsWith old new = take (length old) new ≡ old
