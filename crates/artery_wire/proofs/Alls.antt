@@ -33,7 +33,7 @@ enough one short zero m place (b ∷ bs) p q = absurd (omega (arith, p))
 enough one short (suc n) zero place (b ∷ bs) p q = absurd (omega (arith, q))
 enough {X} one short (suc n) (suc m) place (b ∷ bs) p q =
     goes_on_same (length (b ∷ bs)) place (one (b ∷ bs)) (λ after rest. all_within one n after rest) (λ after rest. all_within one m after rest)
-      (λ at x rest e. let less : length rest < length (b ∷ bs) = short (b ∷ bs) x rest e in enough one short n m at rest (omega (arith, p, less)) (omega (arith, q, less)))
+    (λ at x rest e. let less : length rest < length (b ∷ bs) = short (b ∷ bs) x rest e in enough one short n m at rest (omega (arith, p, less)) (omega (arith, q, less)))
 
 pub left_at_end : {X : Type 0} (one : Reads X) (place : ℕ) (bytes : List ℕ) → length bytes ≡ 0 → all_within one (length bytes) place bytes ≡ ([], None)
 left_at_end one place [] len = at_end one 0 place
@@ -72,14 +72,14 @@ pub stand_then : {X : Type 0} (Is : X → List ℕ → Type 0) (one : Reads X) �
     → all_within one (length (whole ++ rest)) place (whole ++ rest) ≡ in_front xs (all_within one (length rest) (place + length whole) rest)
 stand_then Is one short again some [] whole rest place stands =
     subst (λ (w : List ℕ). all_within one (length (w ++ rest)) place (w ++ rest) ≡ in_front [] (all_within one (length rest) (place + length w) rest)) (sym stands)
-      (ap (λ (p : ℕ). all_within one (length rest) p rest) (sym (add-zero place)))
+    (ap (λ (p : ℕ). all_within one (length rest) p rest) (sym (add-zero place)))
 stand_then {X} Is one short again some (x ∷ xs) whole rest place (front, middle, parts, is, others) =
     let grouped : whole ++ rest ≡ front ++ (middle ++ rest) = ap (λ (t : List ℕ). t ++ rest) parts ∙ append_assoc front middle rest in
     let later : ℕ = place + (length (front ++ (middle ++ rest)) - length (middle ++ rest)) in
     let later_is : later ≡ place + length front = omega (arith, length-append front (middle ++ rest)) in
     let lengths : (place + length front) + length middle ≡ place + length whole = omega (arith, ap length parts, length-append front middle) in
     let first : all_within one (length (front ++ (middle ++ rest))) place (front ++ (middle ++ rest)) ≡ with_first x (all_within one (length (middle ++ rest)) later (middle ++ rest)) =
-      left_at_item one short place (front ++ (middle ++ rest)) x (middle ++ rest) (omega (arith, some x front is, length-append front (middle ++ rest))) (again x front (middle ++ rest) is) in
+    left_at_item one short place (front ++ (middle ++ rest)) x (middle ++ rest) (omega (arith, some x front is, length-append front (middle ++ rest))) (again x front (middle ++ rest) is) in
     ap (λ (t : List ℕ). all_within one (length t) place t) grouped
     ∙ first
     ∙ ap (λ (p : ℕ). with_first x (all_within one (length (middle ++ rest)) p (middle ++ rest))) later_is
@@ -112,10 +112,10 @@ pub fault_read : {X : Type 0} (Is : X → List ℕ → Type 0) (Faulty : FaultKi
     → (xs : List X) (bytes : List ℕ) (fault : WireFault) → FaultsAfter Is Faulty bytes xs fault → all_of one bytes ≡ (xs, Some fault)
 fault_read {X} Is Faulty one reader xs bytes fault f =
     let at_fault : all_within one (length f.rest) (0 + length f.whole) f.rest ≡ ([], Some (fault_at f.kind (0 + length f.whole))) =
-      left_at_fault one (0 + length f.whole) f.rest f.kind f.some (reader.faults_again f.kind f.rest f.faulty) in
+    left_at_fault one (0 + length f.whole) f.rest f.kind f.some (reader.faults_again f.kind f.rest f.faulty) in
     let told : fault_at f.kind (0 + length f.whole) ≡ fault = ap (fault_at f.kind) (zero-add (length f.whole)) ∙ sym f.fault_is in
-    let finished : in_front xs ([], Some (fault_at f.kind (0 + length f.whole))) ≡ (xs, Some fault) = 
-      ap (λ (t : List X). (t, Some (fault_at f.kind (0 + length f.whole)))) (append-nil xs) ∙ ap (λ (w : WireFault). (xs, Some w)) told in
+    let finished : in_front xs ([], Some (fault_at f.kind (0 + length f.whole))) ≡ (xs, Some fault) =
+    ap (λ (t : List X). (t, Some (fault_at f.kind (0 + length f.whole)))) (append-nil xs) ∙ ap (λ (w : WireFault). (xs, Some w)) told in
     ap (all_of one) f.parts
     ∙ stand_then Is one reader.shortens reader.again reader.some xs f.whole f.rest 0 f.whole_is
     ∙ ap (in_front xs) at_fault
@@ -123,9 +123,10 @@ fault_read {X} Is Faulty one reader xs bytes fault f =
 
 pub longest_read : {X : Type 0} (Is : X → List ℕ → Type 0) (Faulty : FaultKind → List ℕ → Type 0) (one : Reads X) → IsReader Is Faulty one
     → (xs : List X) (front rest : List ℕ) → OneAfterOther Is xs front → (others : List X) × ((all_of one (front ++ rest)).0 ≡ xs ++ others)
-longest_read {X} Is Faulty one reader xs front rest stands =
-    ((all_within one (length rest) (0 + length front) rest).0,
-     ap (λ (read : List X × Option WireFault). read.0) (stand_then Is one reader.shortens reader.again reader.some xs front rest 0 stands))
+longest_read {X} Is Faulty one reader xs front rest stands = (
+  (all_within one (length rest) (0 + length front) rest).0,
+  ap (λ (read : List X × Option WireFault). read.0) (stand_then Is one reader.shortens reader.again reader.some xs front rest 0 stands),
+)
 
 -- ---- the other direction
 
@@ -150,7 +151,7 @@ right_more : {X : Type 0} (Is : X → List ℕ → Type 0) (Faulty : FaultKind �
 right_more Is Faulty place bytes front rest x xs None parts is right = (front, rest, parts, is, right)
 right_more Is Faulty place bytes front rest x xs (Some fault) parts is right =
     let moved : (place + (length bytes - length rest)) + length right.whole ≡ place + length (front ++ right.whole) =
-      omega (arith, ap length parts, length-append front rest, length-append front right.whole) in
+    omega (arith, ap length parts, length-append front rest, length-append front right.whole) in
     record {
       whole = front ++ right.whole;
       rest = right.rest;
@@ -190,7 +191,7 @@ read_right Is Faulty one reader zero place (b ∷ bs) le = absurd (omega (arith,
 read_right Is Faulty one reader (suc n) place [] le = refl
 read_right Is Faulty one reader (suc n) place (b ∷ bs) le =
     goes_on_right Is Faulty one reader place b bs (one (b ∷ bs)) (λ after rest. all_within one n after rest) refl
-      (λ at x rest e. let less : length rest < length (b ∷ bs) = reader.shortens (b ∷ bs) x rest e in read_right Is Faulty one reader n at rest (omega (arith, le, less)))
+    (λ at x rest e. let less : length rest < length (b ∷ bs) = reader.shortens (b ∷ bs) x rest e in read_right Is Faulty one reader n at rest (omega (arith, le, less)))
 
 pub whole_stands : {X : Type 0} (Is : X → List ℕ → Type 0) (Faulty : FaultKind → List ℕ → Type 0) (one : Reads X) → IsReader Is Faulty one
     → (xs : List X) (bytes : List ℕ) → all_of one bytes ≡ (xs, None) → OneAfterOther Is xs bytes
@@ -201,7 +202,7 @@ pub fault_stands : {X : Type 0} (Is : X → List ℕ → Type 0) (Faulty : Fault
     → (xs : List X) (bytes : List ℕ) (fault : WireFault) → all_of one bytes ≡ (xs, Some fault) → FaultsAfter Is Faulty bytes xs fault
 fault_stands {X} Is Faulty one reader xs bytes fault e =
     let right : FaultsFrom Is Faulty 0 bytes xs fault =
-      subst (λ (read : List X × Option WireFault). IsRight Is Faulty 0 bytes read.0 read.1) e (read_right Is Faulty one reader (length bytes) 0 bytes (le_refl (length bytes))) in
+    subst (λ (read : List X × Option WireFault). IsRight Is Faulty 0 bytes read.0 read.1) e (read_right Is Faulty one reader (length bytes) 0 bytes (le_refl (length bytes))) in
     record {
       whole = right.whole;
       rest = right.rest;

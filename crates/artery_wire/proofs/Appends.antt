@@ -1,9 +1,9 @@
 -- Appending varints and fields.
-use Rattle.std.proofs.Common.{◌≡◌, ℕ, zero, suc, ◌+◌, ◌*◌, ◌/◌, ◌%◌, ◌^◌, ◌<◌, ◌≤◌, Bool, true, false, cond, ltb, List, [], ◌∷◌, ◌++◌, length, take, refl, sym, ap, subst, ◌∙◌, append_assoc, arith, inl, inr}
-use Rattle.std.proofs.Math.Nat.{pow-suc, pow-le-pow_right}
+use Rattle.std.proofs.Common.{◌≡◌, ℕ, zero, suc, ◌+◌, ◌/◌, ◌%◌, ◌^◌, ◌<◌, ◌≤◌, true, false, ltb, List, [], ◌∷◌, ◌++◌, length, take, refl, sym, ap, subst, ◌∙◌, append_assoc, arith, inl, inr}
+use Rattle.std.proofs.Math.Nat.{pow-suc}
 use Rattle.std.proofs.lemmas.Nat.{div_below}
 use Rattle.std.proofs.lemmas.Bool.{lt-ltb, le-ltb, cases_lt}
-use Rattle.std.proofs.lemmas.List.{length-take, take-take, take_at, append-nil}
+use Rattle.std.proofs.lemmas.List.{length-append, length-take, take-take, take_at, append-nil}
 use Rattle.artery_wire.specs.Writing.{digits_within, varint_of, BeginsWith}
 
 -- ---- the shortest varint
@@ -38,6 +38,29 @@ unfolding varint_of
 varint_more n big small =
     let below : n / 128 < 128 ^ 9 = omega (arith, small) in
     digits_more 9 n big ∙ ap (λ (t : List ℕ). (n % 128 + 128) ∷ t) (same_digits 8 (n / 128) below)
+
+-- ---- how long it is
+
+pub digits_short : (left n : ℕ) → length (digits_within left n) ≤ left
+unfolding digits_within
+digits_short zero n = omega arith
+digits_short (suc left) n =
+    elim (cases_lt n 128) [
+      | inl last ↦ rw (digits_last left n last) (omega arith)
+      | inr more ↦ let others : length (digits_within left (n / 128)) ≤ left = digits_short left (n / 128) in rw (digits_more left n more) (omega (arith, others))
+    ]
+
+pub varint_short : (n : ℕ) → length (varint_of n) ≤ 10
+unfolding varint_of
+varint_short n = digits_short 10 n
+
+pub length_last : (n : ℕ) → n < 128 → length (varint_of n) ≡ 1
+length_last n small = ap length (varint_last n small)
+
+pub length_more : (n : ℕ) → 128 ≤ n → n < 2 ^ 64 → length (varint_of n) ≡ suc (length (varint_of (n / 128)))
+length_more n big small = ap length (varint_more n big small)
+
+pub ruleset size_steps = (varint_short, length_last, length_more, length-append)
 
 -- ---- what appending keeps
 

@@ -1,5 +1,5 @@
 -- The field at the front of bytes: what is read is a field, and a field is read.
-use Rattle.std.proofs.Common.{◌≡◌, ℕ, zero, suc, ◌+◌, ◌*◌, ◌/◌, ◌%◌, ◌^◌, ◌<◌, ◌≤◌, Bool, true, false, cond, ltb, eqb, List, [], ◌∷◌, ◌++◌, length, take, drop, Result, Ok, Err, refl, sym, ap, subst, ◌∙◌, append_assoc, arith, inl, inr}
+use Rattle.std.proofs.Common.{◌≡◌, ℕ, zero, suc, ◌+◌, ◌*◌, ◌/◌, ◌%◌, ◌<◌, ◌≤◌, true, false, cond, ltb, eqb, List, ◌++◌, length, take, drop, Result, Ok, Err, refl, sym, ap, subst, ◌∙◌, append_assoc, arith, inl, inr}
 use Rattle.std.specs.Prelude.{◌⊎◌, ◌||◌}
 use Rattle.std.specs.Int.{Width, w32, w64, byte_len, from_le_bytes}
 use Rattle.std.proofs.lemmas.Bool.{ltb-true, ltb-false, lt-ltb, le-ltb, eqb-true, eqb-false, eq-eqb, ne_eqb, or_cases, or_parts, or_from, or_left, or_right}
@@ -7,7 +7,7 @@ use Rattle.std.proofs.lemmas.List.{take_at, drop_at, take-append-drop, length-ap
 use Rattle.artery_wire.specs.declared.fault.FaultKind.{FaultKind}
 use Rattle.artery_wire.specs.declared.fault.FaultKind.TheVariants as kinds
 use Rattle.artery_wire.specs.Record.{ValueOf, Varint, Fixed64, Bytes, Fixed32, FieldOf, IsVarint, IsPayload, IsValue, IsField, max_number}
-use Rattle.artery_wire.specs.FirstFault.{VarintFault, IsCutPayload, PayloadFault, ValueFault, AfterKey, IsFaultyField, FieldFault}
+use Rattle.artery_wire.specs.FirstFault.{PayloadFault, ValueFault, AfterKey, FieldFault}
 use Rattle.artery_wire.specs.Reading.{◌>>=◌, varint_at, split_at, fixed_at, payload_at, value_at, field_at}
 use Rattle.artery_wire.proofs.Varints.{bind_ok, bind_err, chosen, ok_is, Varints, varint_takes, varint_again, varint_some, varint_fault, varint_fault_again}
 
@@ -126,18 +126,18 @@ value_again kind (Varint n) front rest is =
     subst (λ (k : ℕ). value_at k (front ++ rest) ≡ Ok (Varint n, rest)) (sym is.0) (rw (varint_again n front rest is.1) refl)
 value_again kind (Fixed64 n) front rest is =
     subst (λ (k : ℕ). value_at k (front ++ rest) ≡ Ok (Fixed64 n, rest)) (sym is.0)
-      (ap (λ (r : Result (List ℕ × List ℕ) FaultKind). (r >>= number_of w64) >>= as_fixed64) (split_again 8 front rest is.1)
-        ∙ ap (λ (m : ℕ). Ok (Fixed64 m, rest)) (sym is.2))
+    (ap (λ (r : Result (List ℕ × List ℕ) FaultKind). (r >>= number_of w64) >>= as_fixed64) (split_again 8 front rest is.1)
+    ∙ ap (λ (m : ℕ). Ok (Fixed64 m, rest)) (sym is.2))
 value_again kind (Bytes payload) front rest is =
     let size = is.1.size in
     let grouped : front ++ rest ≡ size ++ (payload ++ rest) = ap (λ (t : List ℕ). t ++ rest) is.1.parts ∙ append_assoc size payload rest in
     let read : payload_at (front ++ rest) ≡ Ok (payload, rest) =
-      ap payload_at grouped ∙ ap (λ (r : Result (ℕ × List ℕ) FaultKind). r >>= λ x. split_at x.0 x.1) (varint_again (length payload) size (payload ++ rest) is.1.size_is) ∙ split_again (length payload) payload rest refl in
+    ap payload_at grouped ∙ ap (λ (r : Result (ℕ × List ℕ) FaultKind). r >>= λ x. split_at x.0 x.1) (varint_again (length payload) size (payload ++ rest) is.1.size_is) ∙ split_again (length payload) payload rest refl in
     subst (λ (k : ℕ). value_at k (front ++ rest) ≡ Ok (Bytes payload, rest)) (sym is.0) (ap (λ (r : Result (List ℕ × List ℕ) FaultKind). r >>= λ x. Ok (Bytes x.0, x.1)) read)
 value_again kind (Fixed32 n) front rest is =
     subst (λ (k : ℕ). value_at k (front ++ rest) ≡ Ok (Fixed32 n, rest)) (sym is.0)
-      (ap (λ (r : Result (List ℕ × List ℕ) FaultKind). (r >>= number_of w32) >>= as_fixed32) (split_again 4 front rest is.1)
-        ∙ ap (λ (m : ℕ). Ok (Fixed32 m, rest)) (sym is.2))
+    (ap (λ (r : Result (List ℕ × List ℕ) FaultKind). (r >>= number_of w32) >>= as_fixed32) (split_again 4 front rest is.1)
+    ∙ ap (λ (m : ℕ). Ok (Fixed32 m, rest)) (sym is.2))
 
 -- ---- fields
 

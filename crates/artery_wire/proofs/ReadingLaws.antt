@@ -1,10 +1,7 @@
 -- The laws of reading, at fields and at the numbers of a packed field.
-use Rattle.std.proofs.Common.{◌≡◌, ℕ, List, ◌++◌, Option, Some, None, Result, Ok, Err}
-use Rattle.std.specs.Prelude.{◌↔◌}
-use Rattle.artery_wire.specs.declared.fault.WireFault.{WireFault}
-use Rattle.artery_wire.specs.Record.{FieldOf, IsVarint, IsField, StandFor, ArePacked}
-use Rattle.artery_wire.specs.FirstFault.{VarintFault, FieldFault, IsFirstFault, IsFirstPackedFault}
-use Rattle.artery_wire.specs.Reading.{varint_at, field_at, fields_of, numbers_of}
+use Rattle.artery_wire.specs.Record.{IsVarint, IsField}
+use Rattle.artery_wire.specs.FirstFault.{VarintFault, FieldFault}
+use Rattle.artery_wire.specs.Reading.{varint_at, field_at}
 use Rattle.artery_wire.specs.Laws.{FieldsAreRead, FaultIsRead, FieldsAreLongest, NumbersAreRead, PackedFaultIsRead}
 use Rattle.artery_wire.proofs.Varints.{Varints, varint_takes, varint_again, varint_some, varint_fault, varint_fault_again}
 use Rattle.artery_wire.proofs.Fields.{Fields, field_takes, field_again, field_some, field_fault, field_fault_again}

@@ -1,12 +1,12 @@
 -- One call of a cursor.
-use Rattle.std.proofs.Common.{◌≡◌, ℕ, ◌+◌, ◌-◌, ◌<◌, ◌≤◌, List, [], ◌∷◌, ◌++◌, length, Option, Some, None, Result, Ok, Err, refl, sym, ap, subst, ◌∙◌, arith}
+use Rattle.std.proofs.Common.{◌≡◌, ℕ, ◌<◌, List, [], length, Some, None, Ok, Err, refl, ap, arith}
 use Rattle.std.proofs.lemmas.List.{length-append}
 use Rattle.artery_wire.specs.declared.fault.FaultKind.{FaultKind}
 use Rattle.artery_wire.specs.declared.fault.WireFault.{WireFault}
 use Rattle.artery_wire.specs.Fault.{fault_at}
 use Rattle.artery_wire.specs.Record.{FieldOf}
 use Rattle.artery_wire.specs.Reading.{with_first, field_at, varint_at}
-use Rattle.artery_wire.specs.Reader.{Reader, left_of, fields_left, numbers_left, moved_to, stopped_by}
+use Rattle.artery_wire.specs.Reader.{Reader, left_of, fields_left, numbers_left, moved_to}
 use Rattle.artery_wire.proofs.Varints.{Varints, varint_takes, varint_some}
 use Rattle.artery_wire.proofs.Fields.{Fields, field_takes, field_some}
 use Rattle.artery_wire.proofs.Alls.{Reads, Shortens, left_at_end, left_at_item, left_at_fault}

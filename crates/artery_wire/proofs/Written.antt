@@ -1,14 +1,13 @@
 -- What was written is read, and is the shortest.
-use Rattle.std.proofs.Common.{◌≡◌, ℕ, zero, suc, ◌+◌, ◌*◌, ◌/◌, ◌%◌, ◌^◌, ◌<◌, ◌≤◌, List, [], ◌∷◌, ◌++◌, length, Option, Some, None, refl, sym, ap, subst, ◌∙◌, arith, inl, inr}
-use Rattle.std.specs.Int.{w32, w64, to_le_bytes, from_le_bytes}
-use Rattle.std.specs.List.{flat_map, AllByRecursion}
+use Rattle.std.proofs.Common.{append_assoc, ◌≡◌, ℕ, zero, suc, ◌+◌, ◌*◌, ◌/◌, ◌%◌, ◌^◌, ◌<◌, ◌≤◌, List, [], ◌∷◌, ◌++◌, length, refl, sym, subst, arith, inl, inr}
+use Rattle.std.specs.Int.{w32, w64, to_le_bytes}
+use Rattle.std.specs.List.{AllByRecursion}
 use Rattle.std.proofs.Math.Nat.{pow-suc}
 use Rattle.std.proofs.lemmas.Nat.{div_below, from_le_bytes-to_le_bytes_4, from_le_bytes-to_le_bytes_8}
 use Rattle.std.proofs.lemmas.Bool.{cases_lt}
 use Rattle.std.proofs.lemmas.List.Concat.{flat_map-cons}
-use Rattle.artery_wire.specs.Record.{ValueOf, Varint, Fixed64, Bytes, Fixed32, FieldOf, Continues, digits_sum, IsVarint, IsPayload, IsValue, IsField, max_number, StandFor}
-use Rattle.artery_wire.specs.Reading.{fields_of}
-use Rattle.artery_wire.specs.Writing.{digits_within, varint_of, IsNumber, field_bytes, record_bytes}
+use Rattle.artery_wire.specs.Record.{ValueOf, Varint, Fixed64, Bytes, Fixed32, FieldOf, Continues, digits_sum, IsField, StandFor}
+use Rattle.artery_wire.specs.Writing.{digits_within, varint_of, IsNumber, value_bytes, field_bytes, record_bytes}
 use Rattle.artery_wire.specs.Laws.{FitsValue, FitsField, WrittenIsRead, VarintIsWritten, VarintIsShortest}
 use Rattle.artery_wire.proofs.Appends.{digits_last, digits_more}
 use Rattle.artery_wire.proofs.ReadingLaws.{fields_are_read}
@@ -40,7 +39,7 @@ written (suc left) n small =
       | inr more ↦
           let w : Written left (n / 128) (digits_within (suc left) (n / 128)) = written left (n / 128) (below_more left n small) in
           subst (λ (t : List ℕ). Written (suc left) n t) (sym (digits_more (suc left) n more))
-            (record { continues = continues_more (n % 128 + 128) (digits_within (suc left) (n / 128)) (omega arith) w.continues; short = omega (arith, w.short); sum = omega (arith, w.sum) })
+          (record { continues = continues_more (n % 128 + 128) (digits_within (suc left) (n / 128)) (omega arith) w.continues; short = omega (arith, w.short); sum = omega (arith, w.sum) })
     ]
 
 pub varint_written : VarintIsWritten
@@ -87,18 +86,27 @@ varint_shortest n bytes v = shortest n bytes v.continues v.value
 
 -- ---- fields
 
-value_written : (number : ℕ) (v : ValueOf) → IsNumber number → FitsValue v → IsField (record { number = number; value = v }) (field_bytes (record { number = number; value = v }))
+value_written : (number : ℕ) (v : ValueOf) → IsNumber number → FitsValue v → IsField (record { number = number; value = v }) (value_bytes number v)
 value_written number (Varint n) num fits =
     record { kind = 0; key = varint_of (number * 8 + 0); rest = varint_of n; parts = refl; key_is = varint_written (number * 8 + 0) (omega (arith, num.1)); above = num.0; below = num.1; value_is = (refl, varint_written n fits) }
 value_written number (Fixed64 n) num fits =
     record { kind = 1; key = varint_of (number * 8 + 1); rest = to_le_bytes w64 n; parts = refl; key_is = varint_written (number * 8 + 1) (omega (arith, num.1)); above = num.0; below = num.1; value_is = (refl, refl, sym (from_le_bytes-to_le_bytes_8 n fits)) }
 value_written number (Bytes payload) num fits =
-    record { kind = 2; key = varint_of (number * 8 + 2); rest = varint_of (length payload) ++ payload; parts = refl; key_is = varint_written (number * 8 + 2) (omega (arith, num.1)); above = num.0; below = num.1;
-      value_is = (refl, record { size = varint_of (length payload); size_is = varint_written (length payload) fits; parts = refl }) }
+    record {
+      kind = 2;
+      key = varint_of (number * 8 + 2);
+      rest = varint_of (length payload) ++ payload;
+      parts = append_assoc (varint_of (number * 8 + 2)) (varint_of (length payload)) payload;
+      key_is = varint_written (number * 8 + 2) (omega (arith, num.1));
+      above = num.0;
+      below = num.1;
+      value_is = (refl, record { size = varint_of (length payload); size_is = varint_written (length payload) fits; parts = refl });
+    }
 value_written number (Fixed32 n) num fits =
     record { kind = 5; key = varint_of (number * 8 + 5); rest = to_le_bytes w32 n; parts = refl; key_is = varint_written (number * 8 + 5) (omega (arith, num.1)); above = num.0; below = num.1; value_is = (refl, refl, sym (from_le_bytes-to_le_bytes_4 n fits)) }
 
 pub field_written : (f : FieldOf) → FitsField f → IsField f (field_bytes f)
+unfolding field_bytes
 field_written f fits = value_written f.number f.value fits.number fits.value
 
 pub record_written : (fs : List FieldOf) → AllByRecursion FitsField fs → StandFor fs (record_bytes fs)

@@ -1,5 +1,5 @@
 -- The first fault of bytes that no list of fields stands for.
-use Rattle.std.specs.Prelude.{◌≡◌, ℕ, zero, suc, ◌+◌, ◌*◌, ◌/◌, ◌%◌, ◌^◌, ◌<◌, ◌≤◌, ◌⊎◌, List, [], ◌∷◌, ◌++◌, length}
+use Rattle.std.specs.Prelude.{◌≡◌, ℕ, zero, suc, ◌/◌, ◌%◌, ◌<◌, ◌≤◌, ◌⊎◌, List, [], ◌∷◌, ◌++◌, length}
 use Rattle.artery_wire.specs.declared.fault.FaultKind.{FaultKind}
 use Rattle.artery_wire.specs.declared.fault.FaultKind.TheVariants as kinds
 use Rattle.artery_wire.specs.declared.fault.WireFault.{WireFault}

@@ -1,8 +1,7 @@
 -- A cursor over the bytes of a record, as contracts see it, and what one call does.
-use Rattle.std.specs.Prelude.{◌≡◌, ℕ, ◌+◌, ◌-◌, List, [], ◌∷◌, length, Option, Some, None, Result, Ok, Err}
+use Rattle.std.specs.Prelude.{◌≡◌, ℕ, ◌+◌, ◌-◌, List, [], length, Option, Some, None, Result, Ok, Err}
 use Rattle.artery_wire.specs.declared.fault.FaultKind.{FaultKind}
 use Rattle.artery_wire.specs.declared.fault.WireFault.{WireFault}
-use Rattle.artery_wire.specs.Fault.{fault_at}
 use Rattle.artery_wire.specs.Record.{FieldOf}
 use Rattle.artery_wire.specs.Reading.{field_at, varint_at, with_first, all_within}
 

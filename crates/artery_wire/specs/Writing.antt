@@ -1,5 +1,5 @@
 -- The shortest bytes of a field.
-use Rattle.std.specs.Prelude.{◌≡◌, ℕ, zero, suc, ◌+◌, ◌*◌, ◌/◌, ◌%◌, ◌^◌, ◌<◌, ◌≤◌, List, [], ◌∷◌, ◌++◌, length, take, nat_lt, if◌then◌else◌}
+use Rattle.std.specs.Prelude.{◌≡◌, ℕ, zero, suc, ◌+◌, ◌*◌, ◌/◌, ◌%◌, ◌≤◌, List, [], ◌∷◌, ◌++◌, length, take, nat_lt, if◌then◌else◌}
 use Rattle.std.specs.Int.{w32, w64, to_le_bytes}
 use Rattle.std.specs.List.{flat_map}
 use Rattle.artery_wire.specs.Record.{ValueOf, Varint, Fixed64, Bytes, Fixed32, FieldOf, max_number}
@@ -17,15 +17,20 @@ varint_of n = digits_within 10 n
 abbrev pub IsNumber : ℕ → Type 0
 IsNumber n = (1 ≤ n) × (n ≤ max_number)
 
--- the key of this number and wire type, and its value
-abbrev pub field_bytes : FieldOf → List ℕ
-field_bytes f =
-    elim f.value [
-      | Varint n ↦ varint_of (f.number * 8 + 0) ++ varint_of n
-      | Fixed64 n ↦ varint_of (f.number * 8 + 1) ++ to_le_bytes w64 n
-      | Bytes payload ↦ varint_of (f.number * 8 + 2) ++ (varint_of (length payload) ++ payload)
-      | Fixed32 n ↦ varint_of (f.number * 8 + 5) ++ to_le_bytes w32 n
-    ]
+-- what stands before a payload of this length: the key and the length
+abbrev pub head_bytes : ℕ → ℕ → List ℕ
+head_bytes number size = varint_of (number * 8 + 2) ++ varint_of size
+
+-- the key of this number and wire type, and the value
+abbrev pub value_bytes : ℕ → ValueOf → List ℕ
+value_bytes number (Varint n) = varint_of (number * 8 + 0) ++ varint_of n
+value_bytes number (Fixed64 n) = varint_of (number * 8 + 1) ++ to_le_bytes w64 n
+value_bytes number (Bytes payload) = head_bytes number (length payload) ++ payload
+value_bytes number (Fixed32 n) = varint_of (number * 8 + 5) ++ to_le_bytes w32 n
+
+-- the shortest bytes of a field
+unfoldable pub field_bytes : FieldOf → List ℕ
+field_bytes f = value_bytes f.number f.value
 
 -- the fields one after the other, each in its shortest form
 abbrev pub record_bytes : List FieldOf → List ℕ

@@ -21,7 +21,7 @@ pub struct Cursor<'a> {
 impl<'a> Model for Cursor<'a> {
     ghost use Rattle.std.specs.Prelude.{◌+◌, ◌<◌, ◌^◌, length};
     ghost use Rattle.artery_wire.specs.Reading.{fields_of, numbers_of};
-ghost use Rattle.artery_wire.specs.Reader.{Reader};
+    ghost use Rattle.artery_wire.specs.Reader.{Reader};
 
     ghost Value = { Reader };
 

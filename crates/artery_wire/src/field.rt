@@ -10,7 +10,7 @@ use crate::varint::varint_front;
 pub(crate) const MAX_NUMBER: u64 = 536_870_911;
 
 /// The value of a field, by its wire type.
-#[derive(Clone, Copy, Debug)]
+#[derive(Clone, Copy, Debug, PartialEq, Eq)]
 pub enum Value<'a> {
     /// Wire type 0: a number below 2^64.
     Varint(u64),
@@ -23,7 +23,7 @@ pub enum Value<'a> {
 }
 
 /// A field of a record: its number from 1 to 536,870,911, and its value.
-#[derive(Clone, Copy, Debug)]
+#[derive(Clone, Copy, Debug, PartialEq, Eq)]
 pub struct Field<'a> {
     pub number: u32,
     pub value: Value<'a>,

@@ -9,16 +9,14 @@ pub fn fields_stand()
     ensures whole { FieldsAreRead }
     ensures fault { FaultIsRead }
     ensures longest { FieldsAreLongest }
-{
-}
+{}
 
 /// The same of the numbers of a packed field.
 #[tactic(auto, using(crate::proofs::ReadingLaws::number_laws))]
 pub fn numbers_stand()
     ensures whole { NumbersAreRead }
     ensures fault { PackedFaultIsRead }
-{
-}
+{}
 
 /// Fields that were written are read again, and a number is written as its shortest varint.
 #[tactic(auto, using(crate::proofs::Written::written_laws))]
@@ -26,5 +24,4 @@ pub fn written_is_read()
     ensures read { WrittenIsRead }
     ensures varint { VarintIsWritten }
     ensures shortest { VarintIsShortest }
-{
-}
+{}

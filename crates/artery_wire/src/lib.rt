@@ -16,4 +16,7 @@ pub use cursor::Cursor;
 pub use fault::WireFault;
 pub use field::{Field, Value};
 pub use laws::{fields_stand, numbers_stand, written_is_read};
-pub use writing::{put_bytes, put_int32, put_uint};
+pub use writing::{head_size, put_bytes, put_head, put_int32, put_uint, uint_size};
+
+#[cfg(test)]
+mod tests;

@@ -1,6 +1,6 @@
-ghost use Rattle.std.specs.Prelude.{◌≡◌, ◌+◌, ◌*◌, ◌++◌, length, take, OnOk, OnErr, IsOk, is_ok};
+ghost use Rattle.std.specs.Prelude.{◌≡◌, ◌+◌, ◌*◌, ◌++◌, ◌≤◌, length, take, OnOk, OnErr};
 ghost use Rattle.std.specs.Int.{w64, cast_unsigned};
-ghost use Rattle.artery_wire.specs.Writing.{IsNumber, varint_of, field_bytes, uint_field, bytes_field, BeginsWith};
+ghost use Rattle.artery_wire.specs.Writing.{IsNumber, varint_of, head_bytes, field_bytes, uint_field, bytes_field, BeginsWith};
 
 use crate::varint::BASE;
 use artery_base::{Bytes, NoMemory};
@@ -45,7 +45,56 @@ pub fn put_bytes(number: u32, bytes: &[u8], out: &mut Bytes) -> Result<(), NoMem
     result
 }
 
-#[tactic(auto, using(crate::proofs::Appends::append_steps))]
+/// How many bytes `put_uint` appends.
+#[tactic(auto, using(crate::proofs::Appends::size_steps), unfolding(crate::specs::Writing::field_bytes))]
+pub fn uint_size(number: u32, value: u64) -> usize
+    ensures size { result ≡ length (field_bytes (uint_field number value)) }
+    ensures small { result ≤ 20 }
+{
+    varint_size(number as u64 * 8) + varint_size(value)
+}
+
+/// How many bytes `put_head` appends.
+#[tactic(auto, using(crate::proofs::Appends::size_steps))]
+pub fn head_size(number: u32, len: usize) -> usize
+    ensures size { result ≡ length (head_bytes number len) }
+    ensures small { result ≤ 20 }
+{
+    varint_size(number as u64 * 8 + 2) + varint_size(len as u64)
+}
+
+/// Appends what stands before a payload of this length: the key and the length. The field is whole
+/// when so many bytes have been appended after it. Without memory `out` stays as it was.
+pub fn put_head(number: u32, len: usize, out: &mut Bytes) -> Result<(), NoMemory>
+    requires { IsNumber number }
+    ensures ok { OnOk result (out.new ≡ out.old ++ head_bytes number len) }
+    ensures err { OnErr result (out.new ≡ out.old) }
+{
+    let before = out.len();
+    let result = append_head(number, len, out);
+    if result.is_err() {
+        out.truncate(before);
+    }
+    result
+}
+
+/// How many bytes the shortest varint of a number has.
+#[tactic(auto, using(crate::proofs::Appends::size_steps))]
+fn varint_size(value: u64) -> usize
+    ensures size { result ≡ length (varint_of value) }
+    ensures small { result ≤ 10 }
+{
+    let base = BASE as u64;
+    let mut left = value;
+    let mut size = 1;
+    while left >= base {
+        size += 1;
+        left /= base;
+    }
+    size
+}
+
+#[tactic(auto, using(crate::proofs::Appends::append_steps), unfolding(crate::specs::Writing::field_bytes))]
 fn append_uint(number: u32, value: u64, out: &mut Bytes) -> Result<(), NoMemory>
     ensures ok { OnOk result (out.new ≡ out.old ++ field_bytes (uint_field number value)) }
     ensures err { OnErr result (BeginsWith out.old out.new) }
@@ -56,12 +105,21 @@ fn append_uint(number: u32, value: u64, out: &mut Bytes) -> Result<(), NoMemory>
 }
 
 #[tactic(auto, using(crate::proofs::Appends::append_steps))]
+fn append_head(number: u32, len: usize, out: &mut Bytes) -> Result<(), NoMemory>
+    ensures ok { OnOk result (out.new ≡ out.old ++ head_bytes number len) }
+    ensures err { OnErr result (BeginsWith out.old out.new) }
+{
+    append_varint(number as u64 * 8 + 2, out)?;
+    append_varint(len as u64, out)?;
+    Ok(())
+}
+
+#[tactic(auto, using(crate::proofs::Appends::append_steps), unfolding(crate::specs::Writing::field_bytes))]
 fn append_bytes(number: u32, bytes: &[u8], out: &mut Bytes) -> Result<(), NoMemory>
     ensures ok { OnOk result (out.new ≡ out.old ++ field_bytes (bytes_field number bytes.now)) }
     ensures err { OnErr result (BeginsWith out.old out.new) }
 {
-    append_varint(number as u64 * 8 + 2, out)?;
-    append_varint(bytes.len() as u64, out)?;
+    append_head(number, bytes.len(), out)?;
     out.extend_from_slice(bytes)?;
     Ok(())
 }

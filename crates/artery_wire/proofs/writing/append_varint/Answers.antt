@@ -1,4 +1,4 @@
-use Rattle.std.proofs.Common.{◌<◌, ◌^◌, ◌≤◌, arith}
+use Rattle.std.proofs.Common.{arith}
 use Rattle.artery_wire.proofs.Appends.{varint_goes_on, begins_goes_on}
 use Rattle.artery_wire.proofs.writing.append_varint.Goals as goal
 
