@@ -1,2 +1,4 @@
 pub mod Outcome
 pub mod Picking
+pub mod Parts
+pub mod Message

@@ -1,7 +1,7 @@
 -- What the fields of a record say about one number.
 use Rattle.std.specs.Prelude.{◌≡◌, ℕ, ◌==◌, List, [], ◌∷◌, ◌++◌, Option, Some, None, Result, Ok, Err, if◌then◌else◌}
-use Rattle.std.specs.Option.{option_or, option_to_list}
-use Rattle.std.specs.List.{concat}
+use Rattle.std.specs.Option.{option_or, unwrap_or}
+use Rattle.artery_wire.specs.declared.fault.WireFault.{WireFault}
 use Rattle.artery_wire.specs.Record.{ValueOf, Varint, Fixed64, Bytes, Fixed32, FieldOf}
 use Rattle.artery_wire.specs.Reading.{fields_of, numbers_of}
 use Rattle.artery_control.specs.declared.fault.ControlFault.{ControlFault}
@@ -29,11 +29,6 @@ varint_in k f = if f.number == k then varint_value f.value else None
 abbrev pub bytes_in : ℕ → FieldOf → Option (List ℕ)
 bytes_in k f = if f.number == k then bytes_value f.value else None
 
--- all that is picked, in order
-abbrev pub picked : {X : Type 0} → (FieldOf → Option X) → List FieldOf → List X
-picked pick [] = []
-picked pick (f ∷ fs) = option_to_list (pick f) ++ picked pick fs
-
 -- the last that is picked, where there is one
 abbrev pub last_picked : {X : Type 0} → (FieldOf → Option X) → List FieldOf → Option X
 last_picked pick [] = None
@@ -47,6 +42,43 @@ last_number k bytes = last_picked (varint_in k) (fields_in bytes)
 abbrev pub last_payload : ℕ → List ℕ → Option (List ℕ)
 last_payload k bytes = last_picked (bytes_in k) (fields_in bytes)
 
--- the payloads of all occurrences of this field
-abbrev pub payloads : ℕ → List ℕ → List (List ℕ)
-payloads k bytes = picked (bytes_in k) (fields_in bytes)
+-- ---- the occurrences of an embedded message
+
+-- a record with no fault, or its first one
+abbrev pub well_formed : Path → Option WireFault → Result (Unit {0}) ControlFault
+well_formed path None = Ok tt
+well_formed path (Some fault) = Err (faults.Wire path fault)
+
+-- the bytes are a record
+unfoldable pub sound : Path → List ℕ → Result (Unit {0}) ControlFault
+sound path bytes = well_formed path (fields_of bytes).1
+
+-- the bytes are a packed list of numbers
+unfoldable pub packed_sound : Path → List ℕ → Result (Unit {0}) ControlFault
+packed_sound path bytes = well_formed path (numbers_of bytes).1
+
+abbrev pub where_present : {X : Type 0} → (X → Result (Unit {0}) ControlFault) → Option X → Result (Unit {0}) ControlFault
+where_present test None = Ok tt
+where_present test (Some x) = test x
+
+-- each payload of this field passes a test by itself
+unfoldable pub each_payload : (List ℕ → Result (Unit {0}) ControlFault) → ℕ → List FieldOf → Result (Unit {0}) ControlFault
+each_payload test k [] = Ok tt
+each_payload test k (f ∷ fs) = where_present test (bytes_in k f) >>= λ _. each_payload test k fs
+
+-- the payloads of all occurrences of this field, one after the other
+unfoldable pub joined : ℕ → List FieldOf → List ℕ
+joined k [] = []
+joined k (f ∷ fs) = unwrap_or (bytes_in k f) [] ++ joined k fs
+
+-- a required value
+abbrev pub required : {X : Type 0} → Path → Option X → Result X ControlFault
+required path None = Err (faults.Missing path)
+required path (Some x) = Ok x
+
+-- An embedded message is read from the bytes of all its occurrences, each of which is a record by itself.
+unfoldable pub embedded : Path → ℕ → List ℕ → Result (List ℕ) ControlFault
+embedded path k bytes = do
+  one ← required (to_field path k) (last_payload k bytes)
+  sound_ones ← each_payload (sound (to_field path k)) k (fields_in bytes)
+  Ok (joined k (fields_in bytes))
