@@ -2,3 +2,4 @@ pub mod Outcome
 pub mod Picking
 pub mod Parts
 pub mod Message
+pub mod Payload

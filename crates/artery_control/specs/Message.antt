@@ -120,6 +120,10 @@ values_at path k bytes = do
   sound_ones ← each_payload (packed_sound (to_field path k)) k (fields_in bytes)
   values_from (to_field path k) k [] (fields_in bytes)
 
+-- there are as many keys as values
+abbrev pub equally_many : Table → Result Table ControlFault
+equally_many t = if length t.keys == length t.values then Ok t else Err (faults.Unequal (length t.keys) (length t.values))
+
 unfoldable pub table_in : List ℕ → Result Table ControlFault
 table_in bytes = do
   from ← unique_at paths.Message 1 bytes
@@ -128,9 +132,7 @@ table_in bytes = do
   keys ← keys_at paths.Message 4 bytes
   values ← values_at paths.Message 5 bytes
   sequence ← sequence_at paths.Message 6 version bytes
-  if length keys == length values then
-    Ok (record { from = from; origin_uid = origin; version = version; keys = keys; values = values; sequence = sequence })
-  else Err (faults.Unequal (length keys) (length values))
+  equally_many (record { from = from; origin_uid = origin; version = version; keys = keys; values = values; sequence = sequence })
 
 unfoldable pub table_ack_in : List ℕ → Result TableAck ControlFault
 table_ack_in bytes = do
@@ -173,6 +175,18 @@ counted_in bytes = do
   from ← unique_at paths.Message 2 bytes
   Ok (record { n = n; from = from })
 
+unfoldable pub refs_table_in : List ℕ → Result Control ControlFault
+refs_table_in bytes = table_in bytes >>= λ t. Ok (controls.RefsTable t.from t.origin_uid t.version t.keys t.values t.sequence)
+
+unfoldable pub refs_ack_in : List ℕ → Result Control ControlFault
+refs_ack_in bytes = table_ack_in bytes >>= λ t. Ok (controls.RefsAck t.from t.version t.sequence)
+
+unfoldable pub manifests_table_in : List ℕ → Result Control ControlFault
+manifests_table_in bytes = table_in bytes >>= λ t. Ok (controls.ManifestsTable t.from t.origin_uid t.version t.keys t.values t.sequence)
+
+unfoldable pub manifests_ack_in : List ℕ → Result Control ControlFault
+manifests_ack_in bytes = table_ack_in bytes >>= λ t. Ok (controls.ManifestsAck t.from t.version t.sequence)
+
 -- the message of this letter
 unfoldable pub message_in : ℕ → List ℕ → Result Control ControlFault
 message_in letter bytes =
@@ -181,10 +195,10 @@ message_in letter bytes =
     else if letter == 99 then (unique_at paths.Message 1 bytes >>= λ from. Ok (controls.TerminatingAck from))
     else if letter == 100 then request_in bytes
     else if letter == 101 then answer_in bytes
-    else if letter == 102 then (table_in bytes >>= λ t. Ok (controls.RefsTable t.from t.origin_uid t.version t.keys t.values t.sequence))
-    else if letter == 103 then (table_ack_in bytes >>= λ t. Ok (controls.RefsAck t.from t.version t.sequence))
-    else if letter == 104 then (table_in bytes >>= λ t. Ok (controls.ManifestsTable t.from t.origin_uid t.version t.keys t.values t.sequence))
-    else if letter == 105 then (table_ack_in bytes >>= λ t. Ok (controls.ManifestsAck t.from t.version t.sequence))
+    else if letter == 102 then refs_table_in bytes
+    else if letter == 103 then refs_ack_in bytes
+    else if letter == 104 then manifests_table_in bytes
+    else if letter == 105 then manifests_ack_in bytes
     else if letter == 106 then numbered_in bytes
     else if letter == 107 then (counted_in bytes >>= λ c. Ok (controls.Ack c.n c.from))
     else if letter == 108 then (counted_in bytes >>= λ c. Ok (controls.Nack c.n c.from))

@@ -4,12 +4,15 @@
 mod control;
 mod fault;
 mod fields;
+mod message;
 mod packed;
 mod parts;
 mod path;
 mod picking;
 mod reading;
+mod table;
 
 pub use control::Control;
 pub use fault::ControlFault;
+pub use message::read_control;
 pub use path::Path;

@@ -146,7 +146,12 @@ fn joined_bytes(alloc: Global, number: u8, bytes: &[u8]) -> Result<Bytes, NoMemo
 
 /// The record of an embedded message, whose occurrences are merged.
 #[tactic(auto, unfolding(crate::specs::Picking::embedded))]
-pub(crate) fn embedded_record(alloc: Global, path: Path, number: u8, bytes: &[u8]) -> Result<Bytes, ControlFault>
+pub(crate) fn embedded_record(
+    alloc: Global,
+    path: Path,
+    number: u8,
+    bytes: &[u8],
+) -> Result<Bytes, ControlFault>
     ensures { Gives (λ b. b) result (embedded path number bytes.now) }
 {
     let path = path.to(number);

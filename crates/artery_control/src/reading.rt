@@ -1,4 +1,4 @@
-ghost use Rattle.std.specs.Prelude.{◌≡◌, Some, None, Option};
+ghost use Rattle.std.specs.Prelude.{◌≡◌, ◌≤◌, IfOk};
 ghost use Rattle.std.specs.Option.{option_map};
 ghost use Rattle.artery_wire.specs.Record.{field_of};
 ghost use Rattle.artery_control.specs.Outcome.{Gives, to_field};
@@ -58,8 +58,15 @@ pub(crate) fn number(path: Path, number: u8, bytes: &[u8]) -> Result<u64, Contro
 
 /// A required 32-bit number of a range: the low 32 bits of its varint.
 #[tactic(auto, unfolding(crate::specs::Message::ranged_at))]
-fn ranged_number(path: Path, field: u8, least: u16, most: u16, bytes: &[u8]) -> Result<u16, ControlFault>
-    ensures { Gives (λ n. n) result (ranged_at path field least most bytes.now) }
+fn ranged_number(
+    path: Path,
+    field: u8,
+    least: u16,
+    most: u16,
+    bytes: &[u8],
+) -> Result<u16, ControlFault>
+    ensures value { Gives (λ n. n) result (ranged_at path field least most bytes.now) }
+    ensures within { IfOk result (λ n. n ≤ most) }
 {
     let value = number(path, field, bytes)? % TWO_TO_32;
     if (least as u64) <= value && value <= most as u64 {
@@ -106,7 +113,12 @@ fn address_of_record(alloc: Global, path: Path, bytes: &[u8]) -> Result<Address,
 
 /// A required address.
 #[tactic(auto, unfolding(crate::specs::Message::address_at))]
-pub(crate) fn address(alloc: Global, path: Path, number: u8, bytes: &[u8]) -> Result<Address, ControlFault>
+pub(crate) fn address(
+    alloc: Global,
+    path: Path,
+    number: u8,
+    bytes: &[u8],
+) -> Result<Address, ControlFault>
     ensures { Gives (λ a. a) result (address_at path number bytes.now) }
 {
     let record = embedded_record(alloc, path, number, bytes)?;
@@ -125,7 +137,12 @@ fn unique_of_record(alloc: Global, path: Path, bytes: &[u8]) -> Result<UniqueAdd
 
 /// A required unique address.
 #[tactic(auto, unfolding(crate::specs::Message::unique_at))]
-pub(crate) fn unique(alloc: Global, path: Path, number: u8, bytes: &[u8]) -> Result<UniqueAddress, ControlFault>
+pub(crate) fn unique(
+    alloc: Global,
+    path: Path,
+    number: u8,
+    bytes: &[u8],
+) -> Result<UniqueAddress, ControlFault>
     ensures { Gives (λ u. u) result (unique_at path number bytes.now) }
 {
     let record = embedded_record(alloc, path, number, bytes)?;
@@ -142,7 +159,12 @@ pub(crate) fn version(path: Path, number: u8, bytes: &[u8]) -> Result<u8, Contro
 
 /// The number of a table, where it is there: at least 1, and one whose version this is.
 #[tactic(auto, unfolding(crate::specs::Message::sequence_at))]
-pub(crate) fn sequence(path: Path, number: u8, version: u8, bytes: &[u8]) -> Result<Option<u64>, ControlFault>
+pub(crate) fn sequence(
+    path: Path,
+    number: u8,
+    version: u8,
+    bytes: &[u8],
+) -> Result<Option<u64>, ControlFault>
     ensures { Gives (λ s. s) result (sequence_at path number version bytes.now) }
 {
     let Some(sequence) = last_varint(number, bytes) else {
@@ -159,7 +181,7 @@ pub(crate) fn sequence(path: Path, number: u8, version: u8, bytes: &[u8]) -> Res
 
 /// An adopted table and who adopted it.
 #[tactic(auto, unfolding(crate::specs::Message::table_ack_in))]
-pub(crate) fn table_ack(alloc: Global, bytes: &[u8]) -> Result<TableAck, ControlFault>
+pub(crate) fn table_ack_message(alloc: Global, bytes: &[u8]) -> Result<TableAck, ControlFault>
     ensures { Gives (λ t. t) result (table_ack_in bytes.now) }
 {
     let from = unique(alloc, Path::Message, 1, bytes)?;
@@ -174,7 +196,7 @@ pub(crate) fn table_ack(alloc: Global, bytes: &[u8]) -> Result<TableAck, Control
 
 /// A number and who tells it.
 #[tactic(auto, unfolding(crate::specs::Message::counted_in))]
-pub(crate) fn counted(alloc: Global, bytes: &[u8]) -> Result<Counted, ControlFault>
+pub(crate) fn counted_message(alloc: Global, bytes: &[u8]) -> Result<Counted, ControlFault>
     ensures { Gives (λ c. c) result (counted_in bytes.now) }
 {
     let n = number(Path::Message, 1, bytes)?;
