@@ -3,6 +3,7 @@ use Rattle.std.specs.Prelude.{◌≡◌, ℕ, List, [], ◌∷◌, ◌++◌, len
 use Rattle.std.specs.Int.{w64, cast_unsigned}
 use Rattle.artery_base.specs.declared.address.Address.{Address}
 use Rattle.artery_base.specs.declared.address.UniqueAddress.{UniqueAddress}
+use Rattle.artery_base.specs.declared.message.SysMsg.{SysMsg}
 use Rattle.artery_wire.specs.Record.{FieldOf}
 use Rattle.artery_wire.specs.Writing.{uint_field, bytes_field, record_bytes}
 use Rattle.artery_control.specs.declared.control.Control.{Control}
@@ -42,6 +43,12 @@ table_fields from origin version keys values sequence =
 abbrev pub table_ack_fields : UniqueAddress → ℕ → Option ℕ → List FieldOf
 table_ack_fields from version sequence = unique_field 1 from ∷ uint_field 2 version ∷ optional_field 3 sequence
 
+abbrev pub message_fields : SysMsg → List FieldOf
+message_fields m = bytes_field 1 m.payload ∷ uint_field 2 (cast_unsigned w64 m.serializer) ∷ present_field 3 m.manifest
+
+abbrev pub numbered_fields : ℕ → SysMsg → UniqueAddress → List FieldOf
+numbered_fields n m reply_to = message_fields m ++ (uint_field 4 n ∷ unique_field 5 reply_to ∷ [])
+
 -- the fields of a message, in ascending order
 abbrev pub control_fields : Control → List FieldOf
 control_fields (controls.Quarantined from to) = unique_field 1 from ∷ unique_field 2 to ∷ []
@@ -53,8 +60,7 @@ control_fields (controls.RefsTable from origin version keys values sequence) = t
 control_fields (controls.RefsAck from version sequence) = table_ack_fields from version sequence
 control_fields (controls.ManifestsTable from origin version keys values sequence) = table_fields from origin version keys values sequence
 control_fields (controls.ManifestsAck from version sequence) = table_ack_fields from version sequence
-control_fields (controls.Numbered n message reply_to) =
-    bytes_field 1 message.payload ∷ uint_field 2 (cast_unsigned w64 message.serializer) ∷ (present_field 3 message.manifest ++ (uint_field 4 n ∷ unique_field 5 reply_to ∷ []))
+control_fields (controls.Numbered n message reply_to) = numbered_fields n message reply_to
 control_fields (controls.Ack n from) = uint_field 1 n ∷ unique_field 2 from ∷ []
 control_fields (controls.Nack n from) = uint_field 1 n ∷ unique_field 2 from ∷ []
 control_fields controls.Heartbeat = []

@@ -11,8 +11,13 @@ mod path;
 mod picking;
 mod reading;
 mod table;
+mod writing;
 
 pub use control::Control;
 pub use fault::ControlFault;
 pub use message::read_control;
 pub use path::Path;
+pub use writing::{manifest_of, write_control};
+
+#[cfg(test)]
+mod tests;
