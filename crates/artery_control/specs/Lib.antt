@@ -3,3 +3,4 @@ pub mod Picking
 pub mod Parts
 pub mod Message
 pub mod Payload
+pub mod RoundTrip

@@ -4,6 +4,7 @@
 mod control;
 mod fault;
 mod fields;
+mod laws;
 mod message;
 mod packed;
 mod parts;
@@ -15,6 +16,7 @@ mod writing;
 
 pub use control::Control;
 pub use fault::ControlFault;
+pub use laws::plain_is_read_again;
 pub use message::read_control;
 pub use path::Path;
 pub use writing::{manifest_of, write_control};
