@@ -1,6 +1,9 @@
 -- Reading the fields that were written.
-use Rattle.std.proofs.Common.{◌≡◌, ℕ, ◌+◌, ◌-◌, ◌%◌, ◌^◌, ◌<◌, ◌≤◌, Bool, true, false, cond, ltb, leb, eqb, List, [], ◌∷◌, ◌++◌, length, Option, Some, None, Result, Ok, Err, refl, sym, ap, subst, ◌∙◌, arith}
-use Rattle.std.specs.Prelude.{◌&&◌}
+use Rattle.std.proofs.Common.{◌≡◌, ℕ, ◌+◌, ◌-◌, ◌%◌, ◌^◌, ◌<◌, ◌≤◌, Bool, true, false, cond, ltb, leb, eqb, List, [], ◌∷◌, ◌++◌, length, map, Option, Some, None, Result, Ok, Err, refl, sym, ap, append_assoc, subst, ◌∙◌, arith}
+use Rattle.std.specs.Prelude.{◌&&◌, ℤ, pos, negsuc, FitsSigned}
+use Rattle.std.specs.Int.{w32, w64, cast_signed, cast_unsigned}
+use Rattle.std.proofs.lemmas.Int.{to_z-of_z}
+use Rattle.artery_base.specs.declared.message.SysMsg.{SysMsg}
 use Rattle.std.specs.Option.{option_or, unwrap_or}
 use Rattle.std.specs.List.{AllByRecursion}
 use Rattle.std.proofs.lemmas.Bool.{le-leb, eq-eqb, and_from}
@@ -17,11 +20,11 @@ use Rattle.artery_control.specs.declared.fault.ControlFault.{ControlFault}
 use Rattle.artery_control.specs.declared.path.Path.{Path}
 use Rattle.artery_control.specs.declared.path.Path.TheVariants as paths
 use Rattle.artery_control.specs.Outcome.{to_field, ◌>>=◌}
-use Rattle.artery_control.specs.Picking.{fields_in, varint_in, bytes_in, last_picked, last_number, last_payload, well_formed, sound, where_present, each_payload, joined, required, embedded}
-use Rattle.artery_control.specs.Parts.{is_part}
-use Rattle.artery_control.specs.Message.{number_at, low32, ranged, ranged_at, part_text, part_at, address_in, address_at, unique_in, unique_at, version_of, agreeing, sequence_at, table_ack_in, counted_in, quarantined_in, request_in, answer_in, refs_ack_in, manifests_ack_in, message_in, is_letter, message_of}
-use Rattle.artery_control.specs.Payload.{optional_field, address_fields, address_bytes, unique_fields, unique_bytes, unique_field, table_ack_fields, control_fields, payload_of, letter_of}
-use Rattle.artery_control.specs.RoundTrip.{AreWritable, IsAddress, IsUnique, IsVersion, IsPlain, PlainIsReadAgain}
+use Rattle.artery_control.specs.Picking.{fields_in, varint_in, bytes_in, last_picked, last_number, last_payload, well_formed, sound, packed_sound, where_present, each_payload, joined, required, embedded}
+use Rattle.artery_control.specs.Parts.{is_part, is_key}
+use Rattle.artery_control.specs.Message.{number_at, low32, ranged, ranged_at, part_text, part_at, address_in, address_at, unique_in, unique_at, version_of, agreeing, sequence_at, table_ack_in, counted_in, quarantined_in, request_in, answer_in, refs_ack_in, manifests_ack_in, refs_table_in, manifests_table_in, numbered_in, with_key, keys_from, keys_at, with_value, with_values, repeated_in, values_from, values_at, equally_many, table_in, message_in, is_letter, message_of}
+use Rattle.artery_control.specs.Payload.{optional_field, present_field, address_fields, address_bytes, unique_fields, unique_bytes, unique_field, table_fields, table_ack_fields, message_fields, numbered_fields, control_fields, payload_of, letter_of}
+use Rattle.artery_control.specs.RoundTrip.{AreWritable, IsAddress, IsUnique, IsVersion, IsTable, IsMessage, WrittenIsReadAgain}
 
 -- ---- the fields of a record that was written
 
@@ -212,9 +215,163 @@ table_ack_again w from version sequence is fine fits =
     let third : sequence_at paths.Message 3 version bytes ≡ Ok sequence = sequence_again paths.Message 3 version bytes sequence last fine in
     rw (first, second, third) refl
 
-pub plain_again : WrittenIsRead → PlainIsReadAgain
-unfolding message_in quarantined_in request_in answer_in refs_ack_in manifests_ack_in table_ack_in counted_in
-plain_again w (controls.Quarantined from to) is fits =
+-- ---- tables
+
+none_keys : (k : ℕ) (keys : List (List ℕ)) → eqb 4 k ≡ false → NonePicked (bytes_in k) (map (bytes_field 4) keys)
+none_keys k [] e = tt
+none_keys k (x ∷ xs) e = (ap (λ b. cond b (Some x) None) e, none_keys k xs e)
+
+none_keys_varint : (k : ℕ) (keys : List (List ℕ)) → NonePicked (varint_in k) (map (bytes_field 4) keys)
+none_keys_varint k [] = tt
+none_keys_varint k (x ∷ xs) = (cond_none {X = ℕ} (eqb 4 k) None refl, none_keys_varint k xs)
+
+none_values : (k : ℕ) (values : List ℕ) → NonePicked (bytes_in k) (map (uint_field 5) values)
+none_values k [] = tt
+none_values k (n ∷ ns) = (cond_none {X = List ℕ} (eqb 5 k) None refl, none_values k ns)
+
+none_values_varint : (k : ℕ) (values : List ℕ) → eqb 5 k ≡ false → NonePicked (varint_in k) (map (uint_field 5) values)
+none_values_varint k [] e = tt
+none_values_varint k (n ∷ ns) e = (ap (λ b. cond b (Some n) None) e, none_values_varint k ns e)
+
+keys_none : (path : Path) (keys : List (List ℕ)) (fs : List FieldOf) → NonePicked (bytes_in 4) fs → keys_from path 4 keys fs ≡ Ok keys
+unfolding keys_from
+keys_none path keys [] none = refl
+keys_none path keys (f ∷ fs) none = ap (λ (o : Option (List ℕ)). with_key path keys o >>= λ more. keys_from path 4 more fs) none.0 ∙ keys_none path keys fs none.1
+
+keys_all : (path : Path) (before keys : List (List ℕ)) (after : List FieldOf) → AllByRecursion (λ text. is_key text ≡ true) keys → NonePicked (bytes_in 4) after
+    → keys_from path 4 before (map (bytes_field 4) keys ++ after) ≡ Ok (before ++ keys)
+unfolding keys_from
+keys_all path before [] after fine none = keys_none path before after none ∙ ap (λ (t : List (List ℕ)). Ok t) (sym (append-nil before))
+keys_all path before (x ∷ xs) after fine none =
+    let test : is_key x ≡ true = fine.0 in
+    rw test (keys_all path (before ++ x ∷ []) xs after fine.1 none ∙ ap (λ (t : List (List ℕ)). Ok t) (append_assoc before (x ∷ []) xs))
+
+abbrev NoneRepeated : List FieldOf → Type 0
+NoneRepeated fs = AllByRecursion (λ f. repeated_in 5 f ≡ []) fs
+
+values_none : (path : Path) (values : List ℕ) (fs : List FieldOf) → NoneRepeated fs → values_from path 5 values fs ≡ Ok values
+unfolding values_from with_values
+values_none path values [] none = refl
+values_none path values (f ∷ fs) none = ap (λ (ns : List ℕ). with_values path values ns >>= λ more. values_from path 5 more fs) none.0 ∙ values_none path values fs none.1
+
+values_skip : (path : Path) (values : List ℕ) (before after : List FieldOf) → NoneRepeated before → values_from path 5 values (before ++ after) ≡ values_from path 5 values after
+unfolding values_from with_values
+values_skip path values [] after none = refl
+values_skip path values (f ∷ fs) after none =
+    ap (λ (ns : List ℕ). with_values path values ns >>= λ more. values_from path 5 more (fs ++ after)) none.0 ∙ values_skip path values fs after none.1
+
+values_all : (path : Path) (before values : List ℕ) (after : List FieldOf) → AllByRecursion (λ n. n ≤ 65535) values → NoneRepeated after
+    → values_from path 5 before (map (uint_field 5) values ++ after) ≡ Ok (before ++ values)
+unfolding values_from with_values
+values_all path before [] after fine none = values_none path before after none ∙ ap (λ (t : List ℕ). Ok t) (sym (append-nil before))
+values_all path before (n ∷ ns) after fine none =
+    let small : n ≤ 65535 = fine.0 in
+    let same : n % 2 ^ 32 ≡ n = omega (arith, small) in
+    let test : leb n 65535 ≡ true = le-leb _ _ small in
+    rw (same, test) (values_all path (before ++ n ∷ []) ns after fine.1 none ∙ ap (λ (t : List ℕ). Ok t) (append_assoc before (n ∷ []) ns))
+
+repeated_keys : (keys : List (List ℕ)) → NoneRepeated (map (bytes_field 4) keys)
+repeated_keys [] = tt
+repeated_keys (x ∷ xs) = (refl, repeated_keys xs)
+
+repeated_optional : (o : Option ℕ) → NoneRepeated (optional_field 6 o)
+repeated_optional None = tt
+repeated_optional (Some n) = (refl, tt)
+
+table_again : WrittenIsRead → (from : UniqueAddress) (origin version : ℕ) (keys : List (List ℕ)) (values : List ℕ) (sequence : Option ℕ) → IsUnique from → IsVersion version sequence → IsTable keys values
+    → AreWritable (table_fields from origin version keys values sequence)
+    → table_in (record_bytes (table_fields from origin version keys values sequence)) ≡ Ok (record { from = from; origin_uid = origin; version = version; keys = keys; values = values; sequence = sequence })
+unfolding table_in keys_at keys_from values_at values_from with_values
+table_again w from origin version keys values sequence is fine table fits =
+    let bytes : List ℕ = record_bytes (table_fields from origin version keys values sequence) in
+    let names : List FieldOf = map (bytes_field 4) keys in
+    let numbers : List FieldOf = map (uint_field 5) values in
+    let last : List FieldOf = optional_field 6 sequence in
+    let head : List FieldOf = unique_field 1 from ∷ uint_field 2 origin ∷ uint_field 3 version ∷ [] in
+    let fields : fields_in bytes ≡ head ++ (names ++ (numbers ++ last)) = fields_again w (table_fields from origin version keys values sequence) fits in
+    let no_bytes : (k : ℕ) → eqb 4 k ≡ false → NonePicked (bytes_in k) (names ++ (numbers ++ last)) =
+    λ k e. none_then (bytes_in k) names (numbers ++ last) (none_keys k keys e) (none_then (bytes_in k) numbers last (none_values k values) (none_bytes k 6 sequence)) in
+    let no_number : (k : ℕ) → eqb 5 k ≡ false → eqb 6 k ≡ false → NonePicked (varint_in k) (names ++ (numbers ++ last)) =
+    λ k e e'. none_then (varint_in k) names (numbers ++ last) (none_keys_varint k keys) (none_then (varint_in k) numbers last (none_values_varint k values e) (none_varint k 6 sequence e')) in
+    let first : unique_at paths.Message 1 bytes ≡ Ok from =
+    unique_again w paths.Message 1 bytes from (record { before = []; after = uint_field 2 origin ∷ uint_field 3 version ∷ (names ++ (numbers ++ last)); parts = fields; here = refl; none = tt; none_after = (refl, (refl, no_bytes 1 refl)) }) is in
+    let second : number_at paths.Message 2 bytes ≡ Ok origin =
+    number_again paths.Message 2 bytes origin (ap (last_picked (varint_in 2)) fields ∙ last_at (varint_in 2) (unique_field 1 from ∷ []) (uint_field 2 origin) (uint_field 3 version ∷ (names ++ (numbers ++ last))) origin refl (refl, no_number 2 refl refl)) in
+    let third : ranged_at paths.Message 3 0 255 bytes ≡ Ok version =
+    ranged_again paths.Message 3 0 255 bytes version (ap (last_picked (varint_in 3)) fields ∙ last_at (varint_in 3) (unique_field 1 from ∷ uint_field 2 origin ∷ []) (uint_field 3 version) (names ++ (numbers ++ last)) version refl (no_number 3 refl refl)) (omega arith) (version_small version sequence fine) (omega arith) in
+    let fourth : keys_from (paths.Field 4) 4 [] (fields_in bytes) ≡ Ok keys =
+    ap (keys_from (paths.Field 4) 4 []) fields ∙ keys_all (paths.Field 4) [] keys (numbers ++ last) table.each_key (none_then (bytes_in 4) numbers last (none_values 4 values) (none_bytes 4 6 sequence)) in
+    let packed : each_payload (packed_sound (paths.Field 5)) 5 (fields_in bytes) ≡ Ok tt =
+    ap (each_payload (packed_sound (paths.Field 5)) 5) fields ∙ each_none (packed_sound (paths.Field 5)) 5 (head ++ (names ++ (numbers ++ last))) (refl, (refl, (refl, no_bytes 5 refl))) in
+    let fifth : values_from (paths.Field 5) 5 [] (fields_in bytes) ≡ Ok values =
+    ap (values_from (paths.Field 5) 5 []) fields
+    ∙ values_skip (paths.Field 5) [] names (numbers ++ last) (repeated_keys keys)
+    ∙ values_all (paths.Field 5) [] values last table.each_value (repeated_optional sequence) in
+    let grouped : head ++ (names ++ (numbers ++ last)) ≡ (head ++ (names ++ numbers)) ++ last = simp append_assoc in
+    let sixth : last_number 6 bytes ≡ sequence =
+    ap (last_picked (varint_in 6)) (fields ∙ grouped)
+    ∙ last_optional 6 (head ++ (names ++ numbers)) sequence refl (refl, (refl, (refl, none_then (varint_in 6) names numbers (none_keys_varint 6 keys) (none_values_varint 6 values refl)))) in
+    let seventh : sequence_at paths.Message 6 version bytes ≡ Ok sequence = sequence_again paths.Message 6 version bytes sequence sixth fine in
+    let equal : eqb (length keys) (length values) ≡ true = eq-eqb _ _ table.equal in
+    rw (first, second, third, fourth, packed, fifth, seventh, equal) refl
+
+-- ---- system messages
+
+none_present : (k : ℕ) (bytes : List ℕ) → eqb 3 k ≡ false → NonePicked (bytes_in k) (present_field 3 bytes)
+none_present k [] e = tt
+none_present k (b ∷ bs) e = (ap (λ t. cond t (Some (b ∷ bs)) None) e, tt)
+
+none_present_varint : (k : ℕ) (bytes : List ℕ) → NonePicked (varint_in k) (present_field 3 bytes)
+none_present_varint k [] = tt
+none_present_varint k (b ∷ bs) = (cond_none {X = ℕ} (eqb 3 k) None refl, tt)
+
+present_again : (before after : List FieldOf) (bytes : List ℕ) → NonePicked (bytes_in 3) before → NonePicked (bytes_in 3) after
+    → unwrap_or (last_picked (bytes_in 3) (before ++ (present_field 3 bytes ++ after))) [] ≡ bytes
+present_again before after [] none none' = ap (λ (o : Option (List ℕ)). unwrap_or o []) (last_none (bytes_in 3) (before ++ after) (none_then (bytes_in 3) before after none none'))
+present_again before after (b ∷ bs) none none' = ap (λ (o : Option (List ℕ)). unwrap_or o []) (last_at (bytes_in 3) before (bytes_field 3 (b ∷ bs)) after (b ∷ bs) refl none')
+
+low_again : (z : ℤ) → FitsSigned w32 z → cast_unsigned w64 z % 2 ^ 32 ≡ cast_unsigned w32 z
+low_again (pos n) fits = let small : n < 2147483648 = fits.sfits in omega (arith, small)
+low_again (negsuc n) fits = let small : n < 2147483648 = fits.sfits in omega (arith, small)
+
+int_again : (z : ℤ) → FitsSigned w32 z → cast_signed w32 (cast_unsigned w64 z % 2 ^ 32) ≡ z
+int_again z fits = ap (cast_signed w32) (low_again z fits) ∙ to_z-of_z w32 z fits
+
+numbered_again : WrittenIsRead → (n : ℕ) (message : SysMsg) (reply_to : UniqueAddress) → IsUnique reply_to → FitsSigned w32 message.serializer → AreWritable (numbered_fields n message reply_to)
+    → numbered_in (record_bytes (numbered_fields n message reply_to)) ≡ Ok (controls.Numbered n message reply_to)
+unfolding numbered_in
+numbered_again w n message reply_to is int fits =
+    let bytes : List ℕ = record_bytes (numbered_fields n message reply_to) in
+    let serializer : ℕ = cast_unsigned w64 message.serializer in
+    let head : List FieldOf = bytes_field 1 message.payload ∷ uint_field 2 serializer ∷ [] in
+    let manifest : List FieldOf = present_field 3 message.manifest in
+    let tail : List FieldOf = uint_field 4 n ∷ unique_field 5 reply_to ∷ [] in
+    let fields : fields_in bytes ≡ head ++ (manifest ++ tail) = fields_again w (numbered_fields n message reply_to) fits in
+    let first : last_payload 1 bytes ≡ Some message.payload =
+    ap (last_picked (bytes_in 1)) fields ∙ last_at (bytes_in 1) [] (bytes_field 1 message.payload) (uint_field 2 serializer ∷ (manifest ++ tail)) message.payload refl (refl, none_then (bytes_in 1) manifest tail (none_present 1 message.manifest refl) (refl, (refl, tt))) in
+    let second : number_at paths.Message 2 bytes ≡ Ok serializer =
+    number_again paths.Message 2 bytes serializer (ap (last_picked (varint_in 2)) fields ∙ last_at (varint_in 2) (bytes_field 1 message.payload ∷ []) (uint_field 2 serializer) (manifest ++ tail) serializer refl (none_then (varint_in 2) manifest tail (none_present_varint 2 message.manifest) (refl, (refl, tt)))) in
+    let third : unwrap_or (last_payload 3 bytes) [] ≡ message.manifest =
+    ap (λ (fs : List FieldOf). unwrap_or (last_picked (bytes_in 3) fs) []) fields ∙ present_again head tail message.manifest (refl, (refl, tt)) (refl, (refl, tt)) in
+    let early : head ++ (manifest ++ tail) ≡ (head ++ manifest) ++ (uint_field 4 n ∷ unique_field 5 reply_to ∷ []) = simp append_assoc in
+    let fourth : number_at paths.Message 4 bytes ≡ Ok n =
+    number_again paths.Message 4 bytes n (ap (last_picked (varint_in 4)) (fields ∙ early) ∙ last_at (varint_in 4) (head ++ manifest) (uint_field 4 n) (unique_field 5 reply_to ∷ []) n refl (refl, tt)) in
+    let late : head ++ (manifest ++ tail) ≡ (head ++ (manifest ++ uint_field 4 n ∷ [])) ++ (unique_field 5 reply_to ∷ []) = simp append_assoc in
+    let fifth : unique_at paths.Message 5 bytes ≡ Ok reply_to =
+    unique_again w paths.Message 5 bytes reply_to (record {
+      before = head ++ (manifest ++ uint_field 4 n ∷ []);
+      after = [];
+      parts = fields ∙ late;
+      here = refl;
+      none = (refl, (refl, none_then (bytes_in 5) manifest (uint_field 4 n ∷ []) (none_present 5 message.manifest refl) (refl, tt)));
+      none_after = tt;
+    }) is in
+    let whole : cast_signed w32 (serializer % 2 ^ 32) ≡ message.serializer = int_again message.serializer int in
+    rw (first, second, fourth, fifth, third, whole) refl
+
+pub message_again : WrittenIsRead → WrittenIsReadAgain
+unfolding message_in quarantined_in request_in answer_in refs_table_in refs_ack_in manifests_table_in manifests_ack_in counted_in
+message_again w (controls.Quarantined from to) is fits =
     let bytes : List ℕ = payload_of (controls.Quarantined from to) in
     let fields : fields_in bytes ≡ unique_field 1 from ∷ unique_field 2 to ∷ [] = fields_again w _ fits in
     let first : unique_at paths.Message 1 bytes ≡ Ok from =
@@ -222,17 +379,17 @@ plain_again w (controls.Quarantined from to) is fits =
     let second : unique_at paths.Message 2 bytes ≡ Ok to =
     unique_again w paths.Message 2 bytes to (record { before = unique_field 1 from ∷ []; after = []; parts = fields; here = refl; none = (refl, tt); none_after = tt }) is.1 in
     starts w (controls.Quarantined from to) 97 refl fits (rw (first, second) refl)
-plain_again w (controls.Terminating from) is fits =
+message_again w (controls.Terminating from) is fits =
     let bytes : List ℕ = payload_of (controls.Terminating from) in
     let first : unique_at paths.Message 1 bytes ≡ Ok from =
     unique_again w paths.Message 1 bytes from (record { before = []; after = []; parts = fields_again w _ fits; here = refl; none = tt; none_after = tt }) is in
     starts w (controls.Terminating from) 98 refl fits (rw first refl)
-plain_again w (controls.TerminatingAck from) is fits =
+message_again w (controls.TerminatingAck from) is fits =
     let bytes : List ℕ = payload_of (controls.TerminatingAck from) in
     let first : unique_at paths.Message 1 bytes ≡ Ok from =
     unique_again w paths.Message 1 bytes from (record { before = []; after = []; parts = fields_again w _ fits; here = refl; none = tt; none_after = tt }) is in
     starts w (controls.TerminatingAck from) 99 refl fits (rw first refl)
-plain_again w (controls.HandshakeReq from to nonce) is fits =
+message_again w (controls.HandshakeReq from to nonce) is fits =
     let bytes : List ℕ = payload_of (controls.HandshakeReq from to nonce) in
     let fields : fields_in bytes ≡ unique_field 1 from ∷ bytes_field 2 (address_bytes to) ∷ optional_field 15 nonce = fields_again w _ fits in
     let first : unique_at paths.Message 1 bytes ≡ Ok from =
@@ -242,7 +399,7 @@ plain_again w (controls.HandshakeReq from to nonce) is fits =
     let last : last_number 15 bytes ≡ nonce =
     ap (last_picked (varint_in 15)) fields ∙ last_optional 15 (unique_field 1 from ∷ bytes_field 2 (address_bytes to) ∷ []) nonce refl (refl, (refl, tt)) in
     starts w (controls.HandshakeReq from to nonce) 100 refl fits (rw (first, second, last) refl)
-plain_again w (controls.HandshakeRsp from for_uid nonce) is fits =
+message_again w (controls.HandshakeRsp from for_uid nonce) is fits =
     let bytes : List ℕ = payload_of (controls.HandshakeRsp from for_uid nonce) in
     let fields : fields_in bytes ≡ unique_field 1 from ∷ (optional_field 14 for_uid ++ optional_field 15 nonce) = fields_again w _ fits in
     let first : unique_at paths.Message 1 bytes ≡ Ok from =
@@ -259,29 +416,32 @@ plain_again w (controls.HandshakeRsp from for_uid nonce) is fits =
     let last : last_number 15 bytes ≡ nonce =
     ap (last_picked (varint_in 15)) fields ∙ last_optional 15 (unique_field 1 from ∷ optional_field 14 for_uid) nonce refl (refl, none_varint 15 14 for_uid refl) in
     starts w (controls.HandshakeRsp from for_uid nonce) 101 refl fits (rw (first, second, last) refl)
-plain_again w (controls.RefsTable from origin version keys values sequence) is fits = absurd is
-plain_again w (controls.RefsAck from version sequence) is fits =
+message_again w (controls.RefsTable from origin version keys values sequence) is fits =
+    starts w (controls.RefsTable from origin version keys values sequence) 102 refl fits (rw (table_again w from origin version keys values sequence is.0 is.1 is.2 fits) refl)
+message_again w (controls.RefsAck from version sequence) is fits =
     starts w (controls.RefsAck from version sequence) 103 refl fits (rw (table_ack_again w from version sequence is.0 is.1 fits) refl)
-plain_again w (controls.ManifestsTable from origin version keys values sequence) is fits = absurd is
-plain_again w (controls.ManifestsAck from version sequence) is fits =
+message_again w (controls.ManifestsTable from origin version keys values sequence) is fits =
+    starts w (controls.ManifestsTable from origin version keys values sequence) 104 refl fits (rw (table_again w from origin version keys values sequence is.0 is.1 is.2 fits) refl)
+message_again w (controls.ManifestsAck from version sequence) is fits =
     starts w (controls.ManifestsAck from version sequence) 105 refl fits (rw (table_ack_again w from version sequence is.0 is.1 fits) refl)
-plain_again w (controls.Numbered n message reply_to) is fits = absurd is
-plain_again w (controls.Ack n from) is fits =
+message_again w (controls.Numbered n message reply_to) is fits =
+    starts w (controls.Numbered n message reply_to) 106 refl fits (numbered_again w n message reply_to is.0 is.1 fits)
+message_again w (controls.Ack n from) is fits =
     let bytes : List ℕ = payload_of (controls.Ack n from) in
     let fields : fields_in bytes ≡ uint_field 1 n ∷ unique_field 2 from ∷ [] = fields_again w _ fits in
     let number : number_at paths.Message 1 bytes ≡ Ok n = number_again paths.Message 1 bytes n (ap (last_picked (varint_in 1)) fields) in
     let second : unique_at paths.Message 2 bytes ≡ Ok from =
     unique_again w paths.Message 2 bytes from (record { before = uint_field 1 n ∷ []; after = []; parts = fields; here = refl; none = (refl, tt); none_after = tt }) is in
     starts w (controls.Ack n from) 107 refl fits (rw (number, second) refl)
-plain_again w (controls.Nack n from) is fits =
+message_again w (controls.Nack n from) is fits =
     let bytes : List ℕ = payload_of (controls.Nack n from) in
     let fields : fields_in bytes ≡ uint_field 1 n ∷ unique_field 2 from ∷ [] = fields_again w _ fits in
     let number : number_at paths.Message 1 bytes ≡ Ok n = number_again paths.Message 1 bytes n (ap (last_picked (varint_in 1)) fields) in
     let second : unique_at paths.Message 2 bytes ≡ Ok from =
     unique_again w paths.Message 2 bytes from (record { before = uint_field 1 n ∷ []; after = []; parts = fields; here = refl; none = (refl, tt); none_after = tt }) is in
     starts w (controls.Nack n from) 108 refl fits (rw (number, second) refl)
-plain_again w controls.Heartbeat is fits = starts w controls.Heartbeat 109 refl fits refl
-plain_again w (controls.HeartbeatRsp uid) is fits =
+message_again w controls.Heartbeat is fits = starts w controls.Heartbeat 109 refl fits refl
+message_again w (controls.HeartbeatRsp uid) is fits =
     let bytes : List ℕ = payload_of (controls.HeartbeatRsp uid) in
     let fields : fields_in bytes ≡ uint_field 1 uid ∷ [] = fields_again w _ fits in
     let number : number_at paths.Message 1 bytes ≡ Ok uid = number_again paths.Message 1 bytes uid (ap (last_picked (varint_in 1)) fields) in

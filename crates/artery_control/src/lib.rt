@@ -16,7 +16,7 @@ mod writing;
 
 pub use control::Control;
 pub use fault::ControlFault;
-pub use laws::plain_is_read_again;
+pub use laws::written_is_read_again;
 pub use message::read_control;
 pub use path::Path;
 pub use writing::{manifest_of, write_control};
