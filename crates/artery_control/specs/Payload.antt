@@ -75,8 +75,8 @@ abbrev pub letter_of : Control → ℕ
 letter_of (controls.Quarantined from to) = 97
 letter_of (controls.Terminating from) = 98
 letter_of (controls.TerminatingAck from) = 99
-letter_of (controls.HandshakeReq from to nonce) = 100
-letter_of (controls.HandshakeRsp from for_uid nonce) = 101
+letter_of (controls.HandshakeReq from to _) = 100
+letter_of (controls.HandshakeRsp from for_uid _) = 101
 letter_of (controls.RefsTable from origin version keys values sequence) = 102
 letter_of (controls.RefsAck from version sequence) = 103
 letter_of (controls.ManifestsTable from origin version keys values sequence) = 104

@@ -45,8 +45,8 @@ abbrev pub IsMessage : Control → Type 0
 IsMessage (controls.Quarantined from to) = IsUnique from × IsUnique to
 IsMessage (controls.Terminating from) = IsUnique from
 IsMessage (controls.TerminatingAck from) = IsUnique from
-IsMessage (controls.HandshakeReq from to nonce) = IsUnique from × IsAddress to
-IsMessage (controls.HandshakeRsp from for_uid nonce) = IsUnique from
+IsMessage (controls.HandshakeReq from to _) = IsUnique from × IsAddress to
+IsMessage (controls.HandshakeRsp from for_uid _) = IsUnique from
 IsMessage (controls.RefsAck from version sequence) = IsUnique from × IsVersion version sequence
 IsMessage (controls.ManifestsAck from version sequence) = IsUnique from × IsVersion version sequence
 IsMessage (controls.Ack n from) = IsUnique from
