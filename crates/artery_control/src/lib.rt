@@ -1,4 +1,8 @@
-//! Control messages.
+//! The control messages of two nodes, read from a payload and written to one.
+//!
+//! `read_control` answers the one message of a manifest and a payload, or exactly the first fault, with its path;
+//! want of memory aside. `write_control` appends the canonical payload: ascending fields, shortest varints, numbers
+//! unpacked, neither an absent field nor an empty manifest. What was written is read again as the message.
 #![tactic(auto)]
 
 mod control;
