@@ -1,0 +1,4 @@
+pub mod Picks
+pub mod Ascii
+pub mod Writes
+pub mod Again

@@ -1,0 +1,6 @@
+pub mod Outcome
+pub mod Picking
+pub mod Parts
+pub mod Message
+pub mod Payload
+pub mod RoundTrip

@@ -1,0 +1,185 @@
+ghost use Rattle.std.specs.Prelude.{◌≡◌};
+ghost use Rattle.artery_control.specs.Outcome.{Gives};
+ghost use Rattle.artery_control.specs.Message.{quarantined_in, request_in, answer_in, refs_table_in, refs_ack_in, manifests_table_in, manifests_ack_in, numbered_in, message_in, message_of};
+
+use crate::control::Control;
+use crate::fault::ControlFault;
+use crate::path::Path;
+use crate::picking::{check_record, last_bytes, last_varint};
+use crate::reading::{TWO_TO_32, address, counted_message, number, table_ack_message, unique};
+use crate::table::table_message;
+use artery_base::{Bytes, SysMsg};
+use std::alloc::Global;
+
+/// The control message of a manifest, one letter from `a` to `n`, and a payload; else the first fault:
+/// first the manifest, then the payload's own wire fault, then its fields in ascending order, an embedded
+/// message being read in this same way in its place, and last `Unequal`.
+pub fn read_control(alloc: Global, manifest: &[u8], bytes: &[u8]) -> Result<Control, ControlFault>
+    ensures { Gives (λ c. c) result (message_of manifest.now bytes.now) }
+{
+    let [letter] = manifest else {
+        return Err(ControlFault::UnknownManifest);
+    };
+    if *letter < b'a' || *letter > b'n' {
+        return Err(ControlFault::UnknownManifest);
+    }
+    check_record(Path::Message, bytes)?;
+    message(alloc, *letter, bytes)
+}
+
+#[tactic(auto, unfolding(crate::specs::Message::message_in))]
+fn message(alloc: Global, letter: u8, bytes: &[u8]) -> Result<Control, ControlFault>
+    ensures { Gives (λ c. c) result (message_in letter bytes.now) }
+{
+    match letter {
+        b'a' => quarantined(alloc, bytes),
+        b'b' => {
+            let from = unique(alloc, Path::Message, 1, bytes)?;
+            Ok(Control::Terminating { from })
+        }
+        b'c' => {
+            let from = unique(alloc, Path::Message, 1, bytes)?;
+            Ok(Control::TerminatingAck { from })
+        }
+        b'd' => handshake_request(alloc, bytes),
+        b'e' => handshake_answer(alloc, bytes),
+        b'f' => refs_table(alloc, bytes),
+        b'g' => refs_ack(alloc, bytes),
+        b'h' => manifests_table(alloc, bytes),
+        b'i' => manifests_ack(alloc, bytes),
+        b'j' => numbered(alloc, bytes),
+        b'k' => {
+            let counted = counted_message(alloc, bytes)?;
+            Ok(Control::Ack {
+                n: counted.n,
+                from: counted.from,
+            })
+        }
+        b'l' => {
+            let counted = counted_message(alloc, bytes)?;
+            Ok(Control::Nack {
+                n: counted.n,
+                from: counted.from,
+            })
+        }
+        b'm' => Ok(Control::Heartbeat),
+        b'n' => {
+            let uid = number(Path::Message, 1, bytes)?;
+            Ok(Control::HeartbeatRsp { uid })
+        }
+        _ => Err(ControlFault::UnknownManifest),
+    }
+}
+
+#[tactic(auto, unfolding(crate::specs::Message::quarantined_in))]
+fn quarantined(alloc: Global, bytes: &[u8]) -> Result<Control, ControlFault>
+    ensures { Gives (λ c. c) result (quarantined_in bytes.now) }
+{
+    let from = unique(alloc, Path::Message, 1, bytes)?;
+    let to = unique(alloc, Path::Message, 2, bytes)?;
+    Ok(Control::Quarantined { from, to })
+}
+
+#[tactic(auto, unfolding(crate::specs::Message::request_in))]
+fn handshake_request(alloc: Global, bytes: &[u8]) -> Result<Control, ControlFault>
+    ensures { Gives (λ c. c) result (request_in bytes.now) }
+{
+    let from = unique(alloc, Path::Message, 1, bytes)?;
+    let to = address(alloc, Path::Message, 2, bytes)?;
+    let nonce = last_varint(15, bytes);
+    Ok(Control::HandshakeReq { from, to, nonce })
+}
+
+#[tactic(auto, unfolding(crate::specs::Message::answer_in))]
+fn handshake_answer(alloc: Global, bytes: &[u8]) -> Result<Control, ControlFault>
+    ensures { Gives (λ c. c) result (answer_in bytes.now) }
+{
+    let from = unique(alloc, Path::Message, 1, bytes)?;
+    let for_uid = last_varint(14, bytes);
+    let nonce = last_varint(15, bytes);
+    Ok(Control::HandshakeRsp {
+        from,
+        for_uid,
+        nonce,
+    })
+}
+
+#[tactic(auto, unfolding(crate::specs::Message::refs_table_in))]
+fn refs_table(alloc: Global, bytes: &[u8]) -> Result<Control, ControlFault>
+    ensures { Gives (λ c. c) result (refs_table_in bytes.now) }
+{
+    let table = table_message(alloc, bytes)?;
+    Ok(Control::RefsTable {
+        from: table.from,
+        origin_uid: table.origin_uid,
+        version: table.version,
+        keys: table.keys,
+        values: table.values,
+        sequence: table.sequence,
+    })
+}
+
+#[tactic(auto, unfolding(crate::specs::Message::manifests_table_in))]
+fn manifests_table(alloc: Global, bytes: &[u8]) -> Result<Control, ControlFault>
+    ensures { Gives (λ c. c) result (manifests_table_in bytes.now) }
+{
+    let table = table_message(alloc, bytes)?;
+    Ok(Control::ManifestsTable {
+        from: table.from,
+        origin_uid: table.origin_uid,
+        version: table.version,
+        keys: table.keys,
+        values: table.values,
+        sequence: table.sequence,
+    })
+}
+
+#[tactic(auto, unfolding(crate::specs::Message::refs_ack_in))]
+fn refs_ack(alloc: Global, bytes: &[u8]) -> Result<Control, ControlFault>
+    ensures { Gives (λ c. c) result (refs_ack_in bytes.now) }
+{
+    let ack = table_ack_message(alloc, bytes)?;
+    Ok(Control::RefsAck {
+        from: ack.from,
+        version: ack.version,
+        sequence: ack.sequence,
+    })
+}
+
+#[tactic(auto, unfolding(crate::specs::Message::manifests_ack_in))]
+fn manifests_ack(alloc: Global, bytes: &[u8]) -> Result<Control, ControlFault>
+    ensures { Gives (λ c. c) result (manifests_ack_in bytes.now) }
+{
+    let ack = table_ack_message(alloc, bytes)?;
+    Ok(Control::ManifestsAck {
+        from: ack.from,
+        version: ack.version,
+        sequence: ack.sequence,
+    })
+}
+
+#[tactic(auto, unfolding(crate::specs::Message::numbered_in))]
+fn numbered(alloc: Global, bytes: &[u8]) -> Result<Control, ControlFault>
+    ensures { Gives (λ c. c) result (numbered_in bytes.now) }
+{
+    let Some(payload) = last_bytes(1, bytes) else {
+        return Err(ControlFault::Missing {
+            path: Path::Field(1),
+        });
+    };
+    let serializer = number(Path::Message, 2, bytes)? % TWO_TO_32;
+    let n = number(Path::Message, 4, bytes)?;
+    let reply_to = unique(alloc, Path::Message, 5, bytes)?;
+    let manifest = Bytes::from_slice(alloc, last_bytes(3, bytes).unwrap_or(&[]))?;
+    let payload = Bytes::from_slice(alloc, payload)?;
+    let message = SysMsg {
+        serializer: (serializer as u32).cast_signed(),
+        manifest,
+        payload,
+    };
+    Ok(Control::Numbered {
+        n,
+        message,
+        reply_to,
+    })
+}
