@@ -114,7 +114,7 @@ fault_of (Err fault) = Some fault
 abbrev pub place_of : FrameFault → ℕ
 place_of (BadMagic at) = at
 place_of (BadStream id) = 4
-place_of (TooLong len) = 5
+place_of (TooLong len) = 0
 
 abbrev pub framed_reading : Stream → List ℕ → List (List ℕ) → Reading
 framed_reading stream bytes frames = record {
