@@ -1,10 +1,15 @@
 -- Every list of bytes has one reading, and a longer one keeps its frames.
-use Rattle.std.proofs.Common.{◌≡◌, ◌≢◌, ℕ, zero, suc, ◌+◌, ◌-◌, ◌<◌, ◌≤◌, List, [], ◌∷◌, ◌++◌, length, take, drop, refl, sym, ap, subst, ◌∙◌, arith, Option, Some, None, Result, Ok, Err, length-drop, length-append}
-use Rattle.std.proofs.lemmas.List.{take-append-drop, drop-append-le}
+use Rattle.std.proofs.Common.{◌≡◌, ◌≢◌, ℕ, zero, suc, ◌+◌, ◌-◌, ◌<◌, ◌≤◌, List, [], ◌∷◌, ◌++◌, length, take, drop, refl, sym, ap, subst, ◌∙◌, arith, Option, Some, None, Result, Ok, Err, length-drop, length-append, append_assoc}
+use Rattle.std.proofs.lemmas.List.{take-append-drop, take_at, drop_at, drop-drop, drop-append-le}
+use Rattle.std.specs.List.{flat_map, AllByRecursion}
+use Rattle.std.specs.Prelude.{slice_get}
+use Rattle.byteorder.specs.Endian.{little_bytes, little_number}
+use Rattle.byteorder.specs.Numbers.{little_number-reads_back}
 use Rattle.artery_frame.specs.declared.stream.Stream.{Stream}
+use Rattle.artery_frame.specs.declared.stream.Stream.TheVariants.{Control, Ordinary}
 use Rattle.artery_frame.specs.declared.fault.FrameFault.{FrameFault}
 use Rattle.artery_frame.specs.declared.fault.FrameFault.TheVariants.{BadMagic, BadStream, TooLong}
-use Rattle.artery_frame.specs.Stream.{Reading, IsReading, IsReadingBy, HasNoId, HasFrames, reading_of, reading_by, framed_reading, preamble_of, place_of, front_of, frames_in, span, fault_of}
+use Rattle.artery_frame.specs.Stream.{Reading, IsReading, IsReadingBy, HasNoId, HasFrames, reading_of, reading_by, framed_reading, preamble_of, KeepsFrames, BeginsWith, AreFrames, Ends, preamble, framed, IsShort, whole_reading, frame_limit, id_of, place_of, front_of, frames_in, span, fault_of}
 use Rattle.artery_frame.proofs.Fronts.{front_says, front_ends}
 use Rattle.artery_frame.proofs.Frames.{are_frames, only_frames, frames_end, first_stay, all_first}
 use Rattle.artery_frame.proofs.Preambles.{Tells, preamble_tells, preamble_none, preamble_made, preamble_magic, preamble_stream, preamble_stays, preamble_len}
@@ -56,11 +61,7 @@ only_by bytes (Some stream) frames offset end h = has_frames bytes stream frames
 pub only_reading : (bytes : List ℕ) (r : Reading) → IsReading bytes r → r ≡ reading_of bytes
 only_reading bytes r h = only_by bytes r.stream r.frames r.offset r.end h
 
--- The frames begin with these.
-abbrev pub GoesOn : Reading → Reading → Type 0
-GoesOn r s = (more : List (List ℕ)) × (s.frames ≡ r.frames ++ more)
-
-longer_by : (bytes more : List ℕ) (p : Result (Option Stream) FrameFault) → preamble_of bytes ≡ p → GoesOn (reading_by bytes p) (reading_of (bytes ++ more))
+longer_by : (bytes more : List ℕ) (p : Result (Option Stream) FrameFault) → preamble_of bytes ≡ p → KeepsFrames (reading_by bytes p) (reading_of (bytes ++ more))
 longer_by bytes more (Ok None) e = ((reading_of (bytes ++ more)).frames, refl)
 longer_by bytes more (Err fault) e = ((reading_of (bytes ++ more)).frames, refl)
 longer_by bytes more (Ok (Some stream)) e =
@@ -72,7 +73,39 @@ longer_by bytes more (Ok (Some stream)) e =
     (drop (length frames) all, ap (λ (r : Reading). r.frames) w ∙ ap (frames_in (length (bytes ++ more))) cut ∙ sym (ap (λ (fs : List (List ℕ)). fs ++ drop (length frames) all) stay ∙ take-append-drop (length frames) all))
 
 -- what was read stays, whatever follows
-pub longer_reading : (bytes more : List ℕ) → GoesOn (reading_of bytes) (reading_of (bytes ++ more))
+pub longer_reading : (bytes more : List ℕ) → KeepsFrames (reading_of bytes) (reading_of (bytes ++ more))
 longer_reading bytes more =
-    let P : Reading → Type 0 = λ r. GoesOn r (reading_of (bytes ++ more)) in
+    let P : Reading → Type 0 = λ r. KeepsFrames r (reading_of (bytes ++ more)) in
     subst P (sym (reading_at bytes (preamble_of bytes) refl)) (longer_by bytes more (preamble_of bytes) refl)
+
+-- a frame that was written stands at the front
+framed_begins : (frame more : List ℕ) → IsShort frame → BeginsWith frame (framed frame ++ more)
+framed_begins frame more h =
+    let rest : framed frame ++ more ≡ little_bytes 4 (length frame) ++ (frame ++ more) = append_assoc (little_bytes 4 (length frame)) frame more in
+    record {
+      limit = h;
+      spelled = ap (little_number 4) rest ∙ little_number-reads_back 4 (length frame) (frame ++ more) (omega arith);
+      whole = omega (arith, length-append (framed frame) more, length-append (little_bytes 4 (length frame)) frame);
+      same = ap (λ (w : List ℕ). take (length frame) (drop 4 w)) rest ∙ take_at frame more (length frame) refl;
+    }
+
+behind_framed : (frame more : List ℕ) → drop (4 + length frame) (framed frame ++ more) ≡ more
+behind_framed frame more = drop_at (framed frame) more (4 + length frame) (length-append (little_bytes 4 (length frame)) frame)
+
+framed_all : (frames : List (List ℕ)) → AllByRecursion IsShort frames → AreFrames frames (flat_map framed frames) × (drop (span frames) (flat_map framed frames) ≡ [])
+framed_all [] h = (tt, refl)
+framed_all (f ∷ fs) h =
+    let ih = framed_all fs h.1 in
+    let behind = behind_framed f (flat_map framed fs) in
+    ((framed_begins f (flat_map framed fs) h.0, rw behind ih.0), sym (drop-drop (span fs) (4 + length f) (framed f ++ flat_map framed fs)) ∙ ap (drop (span fs)) behind ∙ ih.1)
+
+nothing_ends : (rest : List ℕ) → rest ≡ [] → Ends rest None
+nothing_ends rest e four = absurd (omega (arith, ap length e))
+
+written_by : (stream : Stream) (frames : List (List ℕ)) → AllByRecursion IsShort frames → IsReading (preamble stream ++ flat_map framed frames) (whole_reading stream frames)
+written_by Control frames h = (refl, refl, (framed_all frames h).0, nothing_ends _ (framed_all frames h).1, refl)
+written_by Ordinary frames h = (refl, refl, (framed_all frames h).0, nothing_ends _ (framed_all frames h).1, refl)
+
+-- what was written is read again
+pub written_reading : (stream : Stream) (frames : List (List ℕ)) → AllByRecursion IsShort frames → reading_of (preamble stream ++ flat_map framed frames) ≡ whole_reading stream frames
+written_reading stream frames h = sym (only_reading (preamble stream ++ flat_map framed frames) (whole_reading stream frames) (written_by stream frames h))

@@ -1,5 +1,5 @@
 -- What a `Deframer` keeps stands for what was fed and given, through each call.
-use Rattle.std.proofs.Common.{◌≡◌, ◌≢◌, ℕ, zero, suc, ◌+◌, ◌-◌, ◌^◌, ◌<◌, ◌≤◌, min, Bool, List, [], ◌∷◌, ◌++◌, length, take, drop, refl, sym, ap, subst, ◌∙◌, arith, inl, inr, ◌⊎◌, Option, Some, None, Result, Ok, Err, length-drop, length-append, append_assoc}
+use Rattle.std.proofs.Common.{◌≡◌, ◌≢◌, ℕ, zero, suc, ◌+◌, ◌-◌, ◌^◌, ◌<◌, ◌≤◌, min, Bool, false, is_some, List, [], ◌∷◌, ◌++◌, length, take, drop, refl, sym, ap, subst, ◌∙◌, arith, inl, inr, ◌⊎◌, Option, Some, None, Result, Ok, Err, length-drop, length-append, append_assoc}
 use Rattle.std.proofs.lemmas.List.{drop-drop, drop-append-le, take_all, take-append-drop, take_more}
 use Rattle.std.proofs.lemmas.Option.{slice_get_past, slice_get_within, slice_get-get_or, get_or_from_slice_get}
 use Rattle.std.proofs.lemmas.Bool.{cases_lt}
@@ -9,7 +9,7 @@ use Rattle.artery_frame.specs.declared.fault.FrameFault.{FrameFault}
 use Rattle.artery_frame.specs.declared.fault.FrameFault.TheVariants.{BadMagic, BadStream, TooLong}
 use Rattle.artery_frame.specs.Stream.{Reading, reading_of, reading_by, preamble_of, place_of, front_of, frames_in, span, fault_of, frame_limit}
 use Rattle.artery_frame.specs.Kept.{Kept, told, nothing_kept, settled, settled_by, after_preamble, kept_fed, kept_answer, answer_by, preamble_answer, kept_given, given_by, unless_broken, fault_place}
-use Rattle.artery_frame.specs.Standing.{Stands, StandsBy, HasEnded, given_out, place_after, next_of, after_all, with_answer}
+use Rattle.artery_frame.specs.Standing.{Stands, StandsBy, HasEnded, given_out, place_after, next_of, after_all, with_answer, AfterNext}
 use Rattle.artery_frame.proofs.Fronts.{front_says, front_ends, front_fault, Says}
 use Rattle.artery_frame.proofs.Frames.{AreFirst, front_next, span_within, first_stay}
 use Rattle.artery_frame.proofs.Preambles.{preamble_stays, preamble_len, preamble_short, preamble_place}
@@ -234,3 +234,46 @@ join_parts rest a b place None fault room = join_by rest a b place fault room (p
 
 pub joined : (k : Kept) (a b : List ℕ) → kept_fed b (kept_fed a k) ≡ kept_fed (a ++ b) k
 joined k a b = join_parts k.rest a b k.place k.stream k.fault k.has_room
+
+-- what is held and what was given out are what was fed
+held_by : (fed : List ℕ) (given : List (List ℕ)) (p : Result (Option Stream) FrameFault) (stream : Option Stream) (rest : List ℕ)
+    → preamble_of fed ≡ p → stream ≡ (reading_by fed p).stream → given ≡ take (length given) (reading_by fed p).frames → rest ≡ drop (given_out stream given) fed
+    → length rest + given_out (reading_by fed p).stream given ≡ length fed
+held_by fed given (Ok None) stream rest e s f r = rw (r, s) (omega arith)
+held_by fed given (Err x) stream rest e s f r = rw (r, s) (omega arith)
+held_by fed given (Ok (Some st)) stream rest e s f r =
+    rw (r, s) (omega (arith, span_within (length fed) (drop 5 fed) given f, length-drop 5 fed, length-drop (5 + span given) fed, preamble_len fed st e))
+
+pub held_is : (k : Kept) (fed : List ℕ) (given : List (List ℕ)) → Stands k fed given → length k.rest + given_out (reading_of fed).stream given ≡ length fed
+held_is k fed given h =
+    let P : Reading → Type 0 = λ r. StandsBy k r fed given in
+    let w = reading_at fed (preamble_of fed) refl in
+    let s : StandsBy k (reading_by fed (preamble_of fed)) fed given = subst P w h in
+    rw w (held_by fed given (preamble_of fed) k.stream k.rest refl s.stream s.first s.rest)
+
+-- a call of `next` leaves so
+pub after_next : (k new : Kept) (fed : List ℕ) (given : List (List ℕ)) → new ≡ kept_given k → Stands k fed given → Stands new fed (with_answer given (kept_answer k))
+after_next k new fed given e h = let P : Kept → Type 0 = λ n. Stands n fed (with_answer given (kept_answer k)) in subst P (sym e) (gives k fed given h)
+
+-- the same, for what a call left and answered
+none_from : (o : Option FrameFault) → is_some o ≡ false → o ≡ None
+none_from None e = refl
+none_from (Some f) e = absurd (cc)
+
+pub feeds_on : (k new : Kept) (fed piece : List ℕ) (given : List (List ℕ)) → new ≡ kept_fed piece k → is_some k.fault ≡ false → Stands k fed given → Stands new (fed ++ piece) given
+feeds_on k new fed piece given e n h = let P : Kept → Type 0 = λ w. Stands w (fed ++ piece) given in subst P (sym e) (feeds k fed piece given h (none_from k.fault n))
+
+pub starts_so : (new : Kept) (room : Bool) → new ≡ nothing_kept room → Stands new [] []
+starts_so new room e = let P : Kept → Type 0 = λ w. Stands w [] [] in subst P (sym e) (starts room)
+
+pub answers_so : (k : Kept) (answer : Result (Option (List ℕ)) FrameFault) → answer ≡ kept_answer k → (fed : List ℕ) (given : List (List ℕ)) → Stands k fed given → answer ≡ next_of (reading_of fed) given
+answers_so k answer e fed given h = e ∙ answers k fed given h
+
+pub small_so : (k : Kept) (answer : Result (Option (List ℕ)) FrameFault) → answer ≡ kept_answer k → (fed : List ℕ) (given : List (List ℕ)) → Stands k fed given → answer ≡ Ok None → length k.rest < 262148
+small_so k answer e fed given h n = held_small k fed given h (sym e ∙ n)
+
+pub after_so : (k new : Kept) (answer : Result (Option (List ℕ)) FrameFault) → new ≡ kept_given k → answer ≡ kept_answer k → AfterNext k new answer
+after_so k new answer e a = record {
+  kept = e;
+  stands = λ fed given h. let P : Result (Option (List ℕ)) FrameFault → Type 0 = λ x. Stands new fed (with_answer given x) in subst P (sym a) (after_next k new fed given e h);
+}

@@ -1,6 +1,7 @@
 -- The reading of a stream: what it carries, its frames, and how it ends.
 use Rattle.std.specs.Prelude.{◌≡◌, ◌≢◌, ℕ, zero, suc, ◌+◌, ◌<◌, ◌≤◌, Bool, true, false, ◌==◌, nat_lt, if◌then◌else◌, List, [], ◌∷◌, ◌++◌, length, take, drop, slice_get, codes, Option, Some, None, Result, Ok, Err}
-use Rattle.byteorder.specs.Endian.{little_number}
+use Rattle.std.specs.List.{flat_map, AllByRecursion}
+use Rattle.byteorder.specs.Endian.{little_number, little_bytes}
 use Rattle.artery_frame.specs.declared.stream.Stream.{Stream}
 use Rattle.artery_frame.specs.declared.stream.Stream.TheVariants.{Control, Ordinary}
 use Rattle.artery_frame.specs.declared.fault.FrameFault.{FrameFault}
@@ -132,3 +133,23 @@ reading_by bytes (Ok (Some stream)) = framed_reading stream (drop 5 bytes) (fram
 -- The one reading of the bytes.
 unfoldable pub reading_of : List ℕ → Reading
 reading_of bytes = reading_by bytes (preamble_of bytes)
+
+-- The other reading has these frames first.
+abbrev pub KeepsFrames : Reading → Reading → Type 0
+KeepsFrames r other = (more : List (List ℕ)) × (other.frames ≡ r.frames ++ more)
+
+-- What is written before the first frame.
+abbrev pub preamble : Stream → List ℕ
+preamble stream = magic ++ id_of stream ∷ []
+
+-- What is written of a frame: its length in four bytes, the lowest first, and then its bytes.
+abbrev pub framed : List ℕ → List ℕ
+framed frame = little_bytes 4 (length frame) ++ frame
+
+-- The frame is not too long.
+abbrev pub IsShort : List ℕ → Type 0
+IsShort frame = length frame ≤ frame_limit
+
+-- The reading of what was written of a stream with these frames.
+abbrev pub whole_reading : Stream → List (List ℕ) → Reading
+whole_reading stream frames = record { stream = Some stream; frames = frames; offset = 5 + span frames; end = None }
