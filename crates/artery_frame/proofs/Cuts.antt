@@ -33,8 +33,8 @@ pub frame_cut_off : (k : Kept) (items : List ℕ) (from len : ℕ) → k.rest �
 frame_cut_off k items from len r a h =
     found_by k k.fault (take len (drop 4 k.rest)) a
     ∙ (let n = length_found k.rest len h in rw (n, r)
-        (let e : drop (4 + len) (drop from items) ≡ drop (from + 4 + len) items = drop-drop (4 + len) from items ∙ ap (λ (i : ℕ). drop i items) (omega arith) in
-        ap (λ (w : List ℕ). record k { rest = w; place = told (k.place + (4 + len)) }) e))
+    (let e : drop (4 + len) (drop from items) ≡ drop (from + 4 + len) items = drop-drop (4 + len) from items ∙ ap (λ (i : ℕ). drop i items) (omega arith) in
+    ap (λ (w : List ℕ). record k { rest = w; place = told (k.place + (4 + len)) }) e))
 
 -- the frame stands behind its length
 pub frame_shown : (items : List ℕ) (from len : ℕ) → take ((from + 4 + len) - (from + 4)) (drop (from + 4) items) ≡ take len (drop 4 (drop from items))

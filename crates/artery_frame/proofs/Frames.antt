@@ -39,20 +39,20 @@ front_next zero bytes (g ∷ gs) h f = absurd (cc)
 front_next (suc n) bytes given h f = by_front (λ bytes given. front_next n bytes given) (front_of bytes) refl given f where
   by_front : ((bytes : List ℕ) (given : List (List ℕ)) → length bytes ≤ n → AreFirst given (frames_in n bytes)
       → front_of (drop (span given) bytes) ≡ after_all (fault_of (front_of (drop (span (frames_in n bytes)) bytes))) (slice_get (frames_in n bytes) (length given)))
-    → (front : Result (Option (List ℕ)) FrameFault) → front_of bytes ≡ front → (given : List (List ℕ)) → AreFirst given (frames_in (suc n) bytes)
-    → front_of (drop (span given) bytes) ≡ after_all (fault_of (front_of (drop (span (frames_in (suc n) bytes)) bytes))) (slice_get (frames_in (suc n) bytes) (length given))
+      → (front : Result (Option (List ℕ)) FrameFault) → front_of bytes ≡ front → (given : List (List ℕ)) → AreFirst given (frames_in (suc n) bytes)
+      → front_of (drop (span given) bytes) ≡ after_all (fault_of (front_of (drop (span (frames_in (suc n) bytes)) bytes))) (slice_get (frames_in (suc n) bytes) (length given))
   by_front next (Ok None) e [] f = rw (frames_at n bytes (Ok None) e, e) refl
   by_front next (Err fault) e [] f = rw (frames_at n bytes (Err fault) e, e) refl
   by_front next (Ok None) e (g ∷ gs) f = absurd (let k = frames_at n bytes (Ok None) e in let m : g ∷ gs ≡ [] = f ∙ ap (take (suc (length gs))) k in cc)
   by_front next (Err fault) e (g ∷ gs) f = absurd (let k = frames_at n bytes (Err fault) e in let m : g ∷ gs ≡ [] = f ∙ ap (take (suc (length gs))) k in cc)
   by_front next (Ok (Some frame)) e [] f = rw (frames_at n bytes (Ok (Some frame)) e) e
   by_front next (Ok (Some frame)) e (g ∷ gs) f =
-    let k = frames_at n bytes (Ok (Some frame)) e in
-    let m : g ∷ gs ≡ frame ∷ take (length gs) (frames_in n (drop (4 + length frame) bytes)) = f ∙ ap (take (suc (length gs))) k in
-    let same : g ≡ frame = cc in
-    let rest : AreFirst gs (frames_in n (drop (4 + length frame) bytes)) = cc in
-    let ih = next (drop (4 + length frame) bytes) gs (shorter n bytes frame h) rest in
-    rw (k, same) (rw (drop-drop (span gs) (4 + length frame) bytes, drop-drop (span (frames_in n (drop (4 + length frame) bytes))) (4 + length frame) bytes) at ih)
+      let k = frames_at n bytes (Ok (Some frame)) e in
+      let m : g ∷ gs ≡ frame ∷ take (length gs) (frames_in n (drop (4 + length frame) bytes)) = f ∙ ap (take (suc (length gs))) k in
+      let same : g ≡ frame = cc in
+      let rest : AreFirst gs (frames_in n (drop (4 + length frame) bytes)) = cc in
+      let ih = next (drop (4 + length frame) bytes) gs (shorter n bytes frame h) rest in
+      rw (k, same) (rw (drop-drop (span gs) (4 + length frame) bytes, drop-drop (span (frames_in n (drop (4 + length frame) bytes))) (4 + length frame) bytes) at ih)
 
 -- the frames given are not longer than the bytes
 pub span_within : (n : ℕ) (bytes : List ℕ) (given : List (List ℕ)) → AreFirst given (frames_in n bytes) → span given ≤ length bytes
@@ -60,16 +60,16 @@ span_within n bytes [] f = omega arith
 span_within zero bytes (g ∷ gs) f = absurd (cc)
 span_within (suc n) bytes (g ∷ gs) f = by_front (λ bytes given. span_within n bytes given) (front_of bytes) refl where
   by_front : ((bytes : List ℕ) (given : List (List ℕ)) → AreFirst given (frames_in n bytes) → span given ≤ length bytes)
-    → (front : Result (Option (List ℕ)) FrameFault) → front_of bytes ≡ front → span (g ∷ gs) ≤ length bytes
+      → (front : Result (Option (List ℕ)) FrameFault) → front_of bytes ≡ front → span (g ∷ gs) ≤ length bytes
   by_front within (Ok None) e = absurd (let k = frames_at n bytes (Ok None) e in let m : g ∷ gs ≡ [] = f ∙ ap (take (suc (length gs))) k in cc)
   by_front within (Err fault) e = absurd (let k = frames_at n bytes (Err fault) e in let m : g ∷ gs ≡ [] = f ∙ ap (take (suc (length gs))) k in cc)
   by_front within (Ok (Some frame)) e =
-    let k = frames_at n bytes (Ok (Some frame)) e in
-    let m : g ∷ gs ≡ frame ∷ take (length gs) (frames_in n (drop (4 + length frame) bytes)) = f ∙ ap (take (suc (length gs))) k in
-    let same : g ≡ frame = cc in
-    let rest : AreFirst gs (frames_in n (drop (4 + length frame) bytes)) = cc in
-    let ih = within (drop (4 + length frame) bytes) gs rest in
-    rw same (omega (arith, ih, length-drop (4 + length frame) bytes, (begins_front frame bytes e).whole))
+      let k = frames_at n bytes (Ok (Some frame)) e in
+      let m : g ∷ gs ≡ frame ∷ take (length gs) (frames_in n (drop (4 + length frame) bytes)) = f ∙ ap (take (suc (length gs))) k in
+      let same : g ≡ frame = cc in
+      let rest : AreFirst gs (frames_in n (drop (4 + length frame) bytes)) = cc in
+      let ih = within (drop (4 + length frame) bytes) gs rest in
+      rw same (omega (arith, ih, length-drop (4 + length frame) bytes, (begins_front frame bytes e).whole))
 
 -- the first frames stay so, whatever follows
 pub first_stay : (n m : ℕ) (bytes more : List ℕ) (given : List (List ℕ)) → length (bytes ++ more) ≤ m → AreFirst given (frames_in n bytes)
@@ -78,21 +78,21 @@ first_stay n m bytes more [] h f = refl
 first_stay zero m bytes more (g ∷ gs) h f = absurd (cc)
 first_stay (suc n) m bytes more (g ∷ gs) h f = by_front (λ m bytes given. first_stay n m bytes more given) m h (front_of bytes) refl where
   by_front : ((m : ℕ) (bytes : List ℕ) (given : List (List ℕ)) → length (bytes ++ more) ≤ m → AreFirst given (frames_in n bytes) → AreFirst given (frames_in m (bytes ++ more)))
-    → (m : ℕ) → length (bytes ++ more) ≤ m → (front : Result (Option (List ℕ)) FrameFault) → front_of bytes ≡ front → AreFirst (g ∷ gs) (frames_in m (bytes ++ more))
+      → (m : ℕ) → length (bytes ++ more) ≤ m → (front : Result (Option (List ℕ)) FrameFault) → front_of bytes ≡ front → AreFirst (g ∷ gs) (frames_in m (bytes ++ more))
   by_front stay m h (Ok None) e = absurd (let k = frames_at n bytes (Ok None) e in let m : g ∷ gs ≡ [] = f ∙ ap (take (suc (length gs))) k in cc)
   by_front stay m h (Err fault) e = absurd (let k = frames_at n bytes (Err fault) e in let m : g ∷ gs ≡ [] = f ∙ ap (take (suc (length gs))) k in cc)
   by_front stay zero h (Ok (Some frame)) e = absurd (omega (arith, (begins_front frame bytes e).whole, length-append bytes more))
   by_front stay (suc m) h (Ok (Some frame)) e =
-    let b = begins_front frame bytes e in
-    let k = frames_at n bytes (Ok (Some frame)) e in
-    let w : g ∷ gs ≡ frame ∷ take (length gs) (frames_in n (drop (4 + length frame) bytes)) = f ∙ ap (take (suc (length gs))) k in
-    let same : g ≡ frame = cc in
-    let rest : AreFirst gs (frames_in n (drop (4 + length frame) bytes)) = cc in
-    let cut = drop-append-le (4 + length frame) bytes more b.whole in
-    let ih = stay m (drop (4 + length frame) bytes) gs (rw (← cut) (shorter m (bytes ++ more) frame h)) rest in
-    let after : frames_in (suc m) (bytes ++ more) ≡ frame ∷ frames_in m (drop (4 + length frame) bytes ++ more)
+      let b = begins_front frame bytes e in
+      let k = frames_at n bytes (Ok (Some frame)) e in
+      let w : g ∷ gs ≡ frame ∷ take (length gs) (frames_in n (drop (4 + length frame) bytes)) = f ∙ ap (take (suc (length gs))) k in
+      let same : g ≡ frame = cc in
+      let rest : AreFirst gs (frames_in n (drop (4 + length frame) bytes)) = cc in
+      let cut = drop-append-le (4 + length frame) bytes more b.whole in
+      let ih = stay m (drop (4 + length frame) bytes) gs (rw (← cut) (shorter m (bytes ++ more) frame h)) rest in
+      let after : frames_in (suc m) (bytes ++ more) ≡ frame ∷ frames_in m (drop (4 + length frame) bytes ++ more)
       = frames_at m (bytes ++ more) (Ok (Some frame)) (front_begins frame (bytes ++ more) (begins_stays frame bytes more b)) ∙ ap (λ (w : List ℕ). frame ∷ frames_in m w) cut in
-    rw (after, same) (ap (λ (w : List (List ℕ)). frame ∷ w) ih)
+      rw (after, same) (ap (λ (w : List (List ℕ)). frame ∷ w) ih)
 
 -- the frames are frames
 pub are_frames : (n : ℕ) (bytes : List ℕ) → AreFrames (frames_in n bytes) bytes

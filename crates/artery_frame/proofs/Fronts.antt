@@ -19,19 +19,19 @@ pub front_says : (bytes : List ℕ) → Says bytes (front_of bytes)
 unfolding front_of
 front_says bytes =
     cond_both (ltb (length bytes) 4) (Ok None) (front_by (little_number 4 bytes) (drop 4 bytes)) (Says bytes)
-      (λ short four. absurd (omega (arith, ltb-true _ _ short)))
-      (λ four. cond_both (ltb frame_limit (little_number 4 bytes)) (Err (TooLong (little_number 4 bytes))) _ (Says bytes)
-        (λ long. (ltb-false _ _ four, refl, ltb-true _ _ long))
-        (λ fits. cond_both (ltb (length (drop 4 bytes)) (little_number 4 bytes)) (Ok None) (Ok (Some (take (little_number 4 bytes) (drop 4 bytes)))) (Says bytes)
-          (λ part _. (ltb-false _ _ fits, omega (arith, ltb-true _ _ part, length-drop 4 bytes, ltb-false _ _ four)))
-          (λ whole.
-            let size : length (take (little_number 4 bytes) (drop 4 bytes)) ≡ little_number 4 bytes = length-take-le (little_number 4 bytes) (drop 4 bytes) (ltb-false _ _ whole) in
-            record {
-              limit = rw size (ltb-false _ _ fits);
-              spelled = sym size;
-              whole = rw size (omega (arith, ltb-false _ _ whole, length-drop 4 bytes, ltb-false _ _ four));
-              same = rw size refl;
-            })))
+    (λ short four. absurd (omega (arith, ltb-true _ _ short)))
+    (λ four. cond_both (ltb frame_limit (little_number 4 bytes)) (Err (TooLong (little_number 4 bytes))) _ (Says bytes)
+    (λ long. (ltb-false _ _ four, refl, ltb-true _ _ long))
+    (λ fits. cond_both (ltb (length (drop 4 bytes)) (little_number 4 bytes)) (Ok None) (Ok (Some (take (little_number 4 bytes) (drop 4 bytes)))) (Says bytes)
+    (λ part _. (ltb-false _ _ fits, omega (arith, ltb-true _ _ part, length-drop 4 bytes, ltb-false _ _ four)))
+    (λ whole.
+    let size : length (take (little_number 4 bytes) (drop 4 bytes)) ≡ little_number 4 bytes = length-take-le (little_number 4 bytes) (drop 4 bytes) (ltb-false _ _ whole) in
+    record {
+      limit = rw size (ltb-false _ _ fits);
+      spelled = sym size;
+      whole = rw size (omega (arith, ltb-false _ _ whole, length-drop 4 bytes, ltb-false _ _ four));
+      same = rw size refl;
+    })))
 
 -- a frame that stands there is the front
 pub front_begins : (frame bytes : List ℕ) → BeginsWith frame bytes → front_of bytes ≡ Ok (Some frame)
@@ -79,7 +79,7 @@ begins_stays frame bytes more b = record {
   spelled = number_stays bytes more (omega (arith, b.whole)) ∙ b.spelled;
   whole = omega (arith, b.whole, length-append bytes more);
   same = ap (take (length frame)) (drop-append-le 4 bytes more (omega (arith, b.whole)))
-    ∙ take-append-le (length frame) (drop 4 bytes) more (omega (arith, b.whole, length-drop 4 bytes)) ∙ b.same;
+      ∙ take-append-le (length frame) (drop 4 bytes) more (omega (arith, b.whole, length-drop 4 bytes)) ∙ b.same;
 }
 
 -- the frame that is the front stands there

@@ -24,10 +24,10 @@ tells_by bytes (Some at) i m e = (m, refl)
 tells_by bytes None None m e = (m, none_short bytes 4 e, refl)
 tells_by bytes None (Some id) m e =
     cond_both (eqb id 1) (Ok (Some Control)) _ (Tells bytes)
-      (λ one. (m, e ∙ ap (λ (n : ℕ). Some n) (eqb-true id 1 one)))
-      (λ not_one. cond_both (eqb id 2) (Ok (Some Ordinary)) (Err (BadStream id)) (Tells bytes)
-        (λ two. (m, e ∙ ap (λ (n : ℕ). Some n) (eqb-true id 2 two)))
-        (λ not_two. (m, e, eqb-false id 1 not_one, eqb-false id 2 not_two, refl)))
+    (λ one. (m, e ∙ ap (λ (n : ℕ). Some n) (eqb-true id 1 one)))
+    (λ not_one. cond_both (eqb id 2) (Ok (Some Ordinary)) (Err (BadStream id)) (Tells bytes)
+    (λ two. (m, e ∙ ap (λ (n : ℕ). Some n) (eqb-true id 2 two)))
+    (λ not_two. (m, e, eqb-false id 1 not_one, eqb-false id 2 not_two, refl)))
 
 pub preamble_tells : (bytes : List ℕ) → Tells bytes (preamble_of bytes)
 unfolding preamble_of
@@ -75,7 +75,7 @@ place_stays at [] bytes more place e = cc
 place_stays at (w ∷ wanted) [] more place e = absurd (cc)
 place_stays at (w ∷ wanted) (byte ∷ bytes) more place e = by_test (eqb byte w) (place_stays (at + 1) wanted bytes more place) e where
   by_test : (b : Bool) → (mismatch (at + 1) wanted bytes ≡ Some place → mismatch (at + 1) wanted (bytes ++ more) ≡ Some place)
-    → cond b (mismatch (at + 1) wanted bytes) (Some at) ≡ Some place → cond b (mismatch (at + 1) wanted (bytes ++ more)) (Some at) ≡ Some place
+      → cond b (mismatch (at + 1) wanted bytes) (Some at) ≡ Some place → cond b (mismatch (at + 1) wanted (bytes ++ more)) (Some at) ≡ Some place
   by_test true f e = f e
   by_test false f e = e
 
@@ -104,7 +104,7 @@ mismatch_below at [] bytes place e = absurd (cc)
 mismatch_below at (w ∷ wanted) [] place e = absurd (cc)
 mismatch_below at (w ∷ wanted) (byte ∷ bytes) place e = by_test (eqb byte w) (mismatch_below (at + 1) wanted bytes place) e where
   by_test : (b : Bool) → (mismatch (at + 1) wanted bytes ≡ Some place → place < (at + 1) + length wanted)
-    → cond b (mismatch (at + 1) wanted bytes) (Some at) ≡ Some place → place < at + suc (length wanted)
+      → cond b (mismatch (at + 1) wanted bytes) (Some at) ≡ Some place → place < at + suc (length wanted)
   by_test true f e = omega (arith, f e)
   by_test false f e = let s : at ≡ place = cc in omega arith
 

@@ -70,7 +70,7 @@ frame_given k (Err fault) fed given frame h n e = absurd (cc)
 frame_given k (Ok (Some stream)) fed given frame h n e =
     let frames = frames_in (length fed) (drop 5 fed) in
     let more : given ++ frame ∷ [] ≡ take (length given + 1) frames
-      = ap (λ (fs : List (List ℕ)). fs ++ frame ∷ []) h.first ∙ sym (take_more frames (length given) frame (slice_get_within frames (length given) frame e) ∙ ap (λ (f : List ℕ). take (length given) frames ++ f ∷ []) (get_or_from_slice_get frames (length given) frame frame e)) in
+    = ap (λ (fs : List (List ℕ)). fs ++ frame ∷ []) h.first ∙ sym (take_more frames (length given) frame (slice_get_within frames (length given) frame e) ∙ ap (λ (f : List ℕ). take (length given) frames ++ f ∷ []) (get_or_from_slice_get frames (length given) frame frame e)) in
     let count : length (given ++ frame ∷ []) ≡ length given + 1 = omega (arith, length-append given (frame ∷ [])) in
     let longer = span_push given frame in
     record {
@@ -80,9 +80,9 @@ frame_given k (Ok (Some stream)) fed given frame h n e =
       place = rw (h.place, n, longer) (omega arith);
       fault = rw n tt;
     } where
-  span_push : (given : List (List ℕ)) (frame : List ℕ) → span (given ++ frame ∷ []) ≡ span given + (4 + length frame)
-  span_push [] frame = omega arith
-  span_push (g ∷ gs) frame = omega (arith, span_push gs frame)
+      span_push : (given : List (List ℕ)) (frame : List ℕ) → span (given ++ frame ∷ []) ≡ span given + (4 + length frame)
+      span_push [] frame = omega arith
+      span_push (g ∷ gs) frame = omega (arith, span_push gs frame)
 
 -- the fault was answered
 fault_given : (k : Kept) (p : Result (Option Stream) FrameFault) (fed : List ℕ) (given : List (List ℕ)) (fault : FrameFault)
@@ -96,12 +96,15 @@ fault_given k (Ok (Some stream)) fed given fault e h n all end =
     let frames = frames_in (length fed) (drop 5 fed) in
     let long = by_end (front_of (drop (span frames) (drop 5 fed))) refl end in
     record {
-      stream = h.stream; first = h.first; rest = h.rest; fault = (all, end);
+      stream = h.stream;
+      first = h.first;
+      rest = h.rest;
+      fault = (all, end);
       place = rw long.1 (h.place ∙ rw n (ap (λ (fs : List (List ℕ)). told (5 + span fs)) all));
     } where
-  by_end : (front : Result (Option (List ℕ)) FrameFault) → front_of (drop (span (frames_in (length fed) (drop 5 fed))) (drop 5 fed)) ≡ front → fault_of front ≡ Some fault → (len : ℕ) × (fault ≡ TooLong len)
-  by_end (Ok x) w m = absurd (cc)
-  by_end (Err x) w m = let same : x ≡ fault = cc in let long = front_fault _ x w in (long.0, sym same ∙ long.1)
+      by_end : (front : Result (Option (List ℕ)) FrameFault) → front_of (drop (span (frames_in (length fed) (drop 5 fed))) (drop 5 fed)) ≡ front → fault_of front ≡ Some fault → (len : ℕ) × (fault ≡ TooLong len)
+      by_end (Ok x) w m = absurd (cc)
+      by_end (Err x) w m = let same : x ≡ fault = cc in let long = front_fault _ x w in (long.0, sym same ∙ long.1)
 
 -- where the next is no frame, all were given
 all_given : (frames given : List (List ℕ)) → AreFirst given frames → slice_get frames (length given) ≡ None → given ≡ frames

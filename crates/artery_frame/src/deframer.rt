@@ -70,7 +70,7 @@ impl Deframer {
     /// answered a fault. A refused piece changes nothing.
     #[tactic(auto)]
     pub fn feed(&mut self, piece: &[u8]) -> Result<(), FeedFault>
-        requires { length piece.now ≤ 65536 }
+        requires { length piece.now ≤ PIECE_LIMIT }
         ensures ok { OnOk result (self.new ≡ kept_fed piece.now self.old) }
         ensures err { OnErr result (self.new ≡ self.old) }
         ensures broken { IsErrOf result FeedFault.Broken → IsSome self.old.fault }
@@ -91,8 +91,8 @@ impl Deframer {
     #[tactic(auto)]
     pub fn feed_room(&mut self, piece: &[u8]) -> Result<(), Broken>
         requires room { IsTrue self.old.has_room }
-        requires piece { length piece.now ≤ 65536 }
-        requires held { length self.old.rest + length piece.now ≤ 327684 }
+        requires piece { length piece.now ≤ PIECE_LIMIT }
+        requires held { length self.old.rest + length piece.now ≤ HELD_LIMIT }
         ensures ok { OnOk result (self.new ≡ kept_fed piece.now self.old) }
         ensures err { OnErr result (self.new ≡ self.old) }
         ensures broken { is_err result ≡ is_some self.old.fault }
@@ -153,7 +153,7 @@ impl Deframer {
 
     fn with_buffer(buffer: Vec<u8>, has_room: bool) -> Deframer
         requires empty { buffer.items ≡ [] }
-        requires room { IsTrue has_room → 655368 ≤ vec_capacity buffer }
+        requires room { IsTrue has_room → ROOM ≤ vec_capacity buffer }
         ensures { result ≡ nothing_kept has_room }
     {
         Deframer {
@@ -175,10 +175,10 @@ impl Deframer {
 
     /// Adds a piece behind what is held, which is moved to the front first where that is worth its while.
     fn append(&mut self, piece: &[u8]) -> Result<(), AllocError>
-        requires { length piece.now ≤ 65536 }
+        requires { length piece.now ≤ PIECE_LIMIT }
         ensures ok { OnOk result (self.new ≡ kept_fed piece.now self.old) }
         ensures err { OnErr result (self.new ≡ self.old) }
-        ensures room { IsTrue self.old.has_room → length self.old.rest + length piece.now ≤ 327684 → IsOk result }
+        ensures room { IsTrue self.old.has_room → length self.old.rest + length piece.now ≤ HELD_LIMIT → IsOk result }
     {
         self.from = cut_off(&mut self.buffer, self.from);
         self.buffer.extend_from_slice(piece)?;
@@ -227,7 +227,11 @@ impl Deframer {
             return Err(fault);
         }
         let rest = &self.buffer[self.from..];
-        let found = if self.stream.is_some() { frame_len(rest) } else { no_frame(rest) };
+        let found = if self.stream.is_some() {
+            frame_len(rest)
+        } else {
+            no_frame(rest)
+        };
         if let Err(fault) = found {
             self.place = fault_place(fault, self.place);
             self.fault = Some(fault);

@@ -13,8 +13,7 @@ pub fn one_reading()
     ensures longer { (bytes more : List ℕ) → KeepsFrames (reading_of bytes) (reading_of (bytes ++ more)) }
     ensures written { (stream : Stream) (frames : List (List ℕ)) → AllByRecursion IsShort frames
         → reading_of (preamble stream ++ flat_map framed frames) ≡ whole_reading stream frames }
-{
-}
+{}
 
 /// What a `Deframer` keeps stands, through each call, for what was fed and given. Two pieces one after
 /// the other are the joined piece.
@@ -31,5 +30,4 @@ pub fn keeping_stands()
     ensures small { (k : Kept) (fed : List ℕ) (given : List (List ℕ)) → Stands k fed given → kept_answer k ≡ Ok None
         → length k.rest < 262148 }
     ensures joined { (k : Kept) (piece next : List ℕ) → kept_fed next (kept_fed piece k) ≡ kept_fed (piece ++ next) k }
-{
-}
+{}

@@ -11,9 +11,11 @@ mod front;
 mod laws;
 mod preamble;
 mod stream;
+#[cfg(test)]
+mod tests;
 mod write;
 
-pub use deframer::Deframer;
+pub use deframer::{Deframer, HELD_LIMIT, PIECE_LIMIT};
 pub use fault::{Broken, FeedFault, FrameFault};
 pub use front::FRAME_LIMIT;
 pub use laws::{keeping_stands, one_reading};
