@@ -275,8 +275,33 @@ answers_so k answer e fed given h = e ∙ answers k fed given h
 pub small_so : (k : Kept) (answer : Result (Option (List ℕ)) FrameFault) → answer ≡ kept_answer k → (fed : List ℕ) (given : List (List ℕ)) → Stands k fed given → answer ≡ Ok None → length k.rest < 262148
 small_so k answer e fed given h n = held_small k fed given h (sym e ∙ n)
 
+-- a piece changes neither the room nor the fault
+fed_parts : (rest piece : List ℕ) (place : ℕ) (stream : Option Stream) (fault : Option FrameFault) (room : Bool)
+    → ((kept_fed piece (of_parts rest place stream fault room)).has_room ≡ room) × ((kept_fed piece (of_parts rest place stream fault room)).fault ≡ fault)
+fed_parts rest piece place (Some stream) fault room = (refl, refl)
+fed_parts rest piece place None fault room = by_preamble (preamble_of (rest ++ piece)) where
+  by_preamble : (p : Result (Option Stream) FrameFault)
+    → ((after_preamble (of_parts (rest ++ piece) place None fault room) p).has_room ≡ room) × ((after_preamble (of_parts (rest ++ piece) place None fault room) p).fault ≡ fault)
+  by_preamble (Ok (Some stream)) = (refl, refl)
+  by_preamble (Ok None) = (refl, refl)
+  by_preamble (Err fault) = (refl, refl)
+
+pub fed_room : (k new : Kept) (piece : List ℕ) → new ≡ kept_fed piece k → new.has_room ≡ k.has_room
+fed_room k new piece e = ap (λ (w : Kept). w.has_room) e ∙ (fed_parts k.rest piece k.place k.stream k.fault k.has_room).0
+
+pub fed_fault : (k new : Kept) (piece : List ℕ) → new ≡ kept_fed piece k → new.fault ≡ k.fault
+fed_fault k new piece e = ap (λ (w : Kept). w.fault) e ∙ (fed_parts k.rest piece k.place k.stream k.fault k.has_room).1
+
+-- nor does a call of `next` change the room
+given_room_by : (k : Kept) (fault : Option FrameFault) (answer : Result (Option (List ℕ)) FrameFault) → (unless_broken fault k (given_by k answer)).has_room ≡ k.has_room
+given_room_by k (Some fault) answer = refl
+given_room_by k None (Ok (Some frame)) = refl
+given_room_by k None (Ok None) = refl
+given_room_by k None (Err fault) = refl
+
 pub after_so : (k new : Kept) (answer : Result (Option (List ℕ)) FrameFault) → new ≡ kept_given k → answer ≡ kept_answer k → AfterNext k new answer
 after_so k new answer e a = record {
   kept = e;
+  room = ap (λ (w : Kept). w.has_room) e ∙ given_room_by k k.fault (kept_answer k);
   stands = λ fed given h. let P : Result (Option (List ℕ)) FrameFault → Type 0 = λ x. Stands new fed (with_answer given x) in subst P (sym a) (after_next k new fed given e h);
 }

@@ -46,7 +46,9 @@ with_answer given (Ok (Some frame)) = given ++ frame ∷ []
 with_answer given (Ok None) = given
 with_answer given (Err fault) = given
 
--- A call of `next` leaves what is kept without what it gave, and stands for the frame given too.
+-- A call of `next` leaves what is kept without what it gave, with room as before, and that stands for the
+-- frame given too.
 pub record AfterNext (old new : Kept) (answer : Result (Option (List ℕ)) FrameFault) : Type 0 where
   pub kept : new ≡ kept_given old
+  pub room : new.has_room ≡ old.has_room
   pub stands : (fed : List ℕ) (given : List (List ℕ)) → Stands old fed given → Stands new fed (with_answer given answer)

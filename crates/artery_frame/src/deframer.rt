@@ -75,6 +75,8 @@ impl Deframer {
         ensures err { OnErr result (self.new ≡ self.old) }
         ensures broken { IsErrOf result FeedFault.Broken → IsSome self.old.fault }
         ensures refused { IsSome self.old.fault → result ≡ Err FeedFault.Broken }
+        ensures room { self.new.has_room ≡ self.old.has_room }
+        ensures fault { self.new.fault ≡ self.old.fault }
         ensures stands { OnOk result ((fed : List ℕ) (given : List (List ℕ)) → Stands self.old fed given
             → Stands self.new (fed ++ piece.now) given) }
     {
@@ -90,12 +92,14 @@ impl Deframer {
     /// changes nothing.
     #[tactic(auto)]
     pub fn feed_room(&mut self, piece: &[u8]) -> Result<(), Broken>
-        requires room { IsTrue self.old.has_room }
+        requires has_room { IsTrue self.old.has_room }
         requires piece { length piece.now ≤ PIECE_LIMIT }
         requires held { length self.old.rest + length piece.now ≤ HELD_LIMIT }
         ensures ok { OnOk result (self.new ≡ kept_fed piece.now self.old) }
         ensures err { OnErr result (self.new ≡ self.old) }
         ensures broken { is_err result ≡ is_some self.old.fault }
+        ensures room { self.new.has_room ≡ self.old.has_room }
+        ensures fault { self.new.fault ≡ self.old.fault }
         ensures stands { OnOk result ((fed : List ℕ) (given : List (List ℕ)) → Stands self.old fed given
             → Stands self.new (fed ++ piece.now) given) }
     {
@@ -174,11 +178,14 @@ impl Deframer {
     }
 
     /// Adds a piece behind what is held, which is moved to the front first where that is worth its while.
+    #[tactic(auto, using(crate::proofs::Stood::fed_room, crate::proofs::Stood::fed_fault))]
     fn append(&mut self, piece: &[u8]) -> Result<(), AllocError>
         requires { length piece.now ≤ PIECE_LIMIT }
         ensures ok { OnOk result (self.new ≡ kept_fed piece.now self.old) }
         ensures err { OnErr result (self.new ≡ self.old) }
-        ensures room { IsTrue self.old.has_room → length self.old.rest + length piece.now ≤ HELD_LIMIT → IsOk result }
+        ensures room { self.new.has_room ≡ self.old.has_room }
+        ensures fault { self.new.fault ≡ self.old.fault }
+        ensures fits { IsTrue self.old.has_room → length self.old.rest + length piece.now ≤ HELD_LIMIT → IsOk result }
     {
         self.from = cut_off(&mut self.buffer, self.from);
         self.buffer.extend_from_slice(piece)?;

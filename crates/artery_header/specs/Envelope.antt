@@ -141,3 +141,84 @@ read_of bytes =
 abbrev pub Gives : {X Y : Type 0} → (X → Y) → Result X HeaderFault → Result Y HeaderFault → Type 0
 Gives view (Ok x) read = read ≡ Ok (view x)
 Gives view (Err e) read = read ≡ Err e
+
+-- Two bytes of length and the text; a number needs none, since it stands in the tag.
+abbrev pub spelled : Named → List ℕ
+spelled (Text text) = little_bytes 2 (length text) ++ text
+spelled (Number i) = []
+
+-- So many bytes does a name take behind the header.
+abbrev pub spelled_len : Named → ℕ
+spelled_len (Text text) = 2 + length text
+spelled_len (Number i) = 0
+
+-- The tag of a text is its place in the envelope, and that of a number is 0xFF000000 and the number.
+abbrev pub tag_of : ℕ → Named → ℕ
+tag_of at (Text text) = at
+tag_of at (Number i) = 4278190080 + i
+
+-- The texts of an envelope, and where they stand.
+abbrev pub recipient_at : Contents → ℕ
+recipient_at c = header_len + spelled_len c.sender
+
+abbrev pub manifest_at : Contents → ℕ
+manifest_at c = recipient_at c + spelled_len c.recipient
+
+abbrev pub payload_at : Contents → ℕ
+payload_at c = manifest_at c + spelled_len c.manifest
+
+-- The 28 bytes of the header.
+unfoldable pub header : Contents → List ℕ
+header c =
+    (0 ∷ 0 ∷ c.refs_version ∷ c.manifests_version ∷ []) ++ little_bytes 8 c.uid ++ little_bytes 4 (cast_unsigned w32 c.serializer)
+    ++ little_bytes 4 (tag_of header_len c.sender) ++ little_bytes 4 (tag_of (recipient_at c) c.recipient) ++ little_bytes 4 (tag_of (manifest_at c) c.manifest)
+
+-- The one canonical spelling of an envelope.
+abbrev pub canonical : Contents → List ℕ
+canonical c = header c ++ spelled c.sender ++ spelled c.recipient ++ spelled c.manifest ++ c.payload
+
+-- So many bytes does it have.
+abbrev pub canonical_len : Contents → ℕ
+canonical_len c = payload_at c + length c.payload
+
+-- The most bytes of a literal, and of an envelope.
+abbrev pub literal_limit : ℕ
+literal_limit = 65535
+
+abbrev pub envelope_limit : ℕ
+envelope_limit = 262144
+
+-- The text fits into its two bytes of length.
+abbrev pub is_long : Named → Bool
+is_long (Text text) = nat_lt literal_limit (length text)
+is_long (Number i) = false
+
+-- Why an envelope can't be written: its first literal that is too long, or else its length.
+abbrev pub refusal : Contents → Option EncodeFault
+refusal c =
+    if is_long c.sender then Some (LiteralLong Sender)
+    else if is_long c.recipient then Some (LiteralLong Recipient)
+    else if is_long c.manifest then Some (LiteralLong Manifest)
+    else if nat_lt envelope_limit (canonical_len c) then Some (FrameLong (canonical_len c))
+    else None
+
+-- The literal is ASCII.
+abbrev pub IsAsciiName : Named → Type 0
+IsAsciiName (Text text) = is_text text ≡ true
+IsAsciiName (Number i) = Unit {0}
+
+-- The literals of the envelope are ASCII.
+pub record HasTexts (c : Contents) : Type 0 where
+  pub sender : IsAsciiName c.sender
+  pub recipient : IsAsciiName c.recipient
+  pub manifest : IsAsciiName c.manifest
+
+-- The slices one after the other.
+abbrev pub joined : List (Bor (List ℕ)) → List ℕ
+joined slices = flat_map (λ slice. slice.now) slices
+
+-- Written, refused for this, or without memory.
+abbrev pub Writes : Result (Unit {0}) EncodeFault → Contents → List ℕ → List ℕ → Type 0
+Writes (Ok u) c old new = (refusal c ≡ None) × (new ≡ old ++ canonical c)
+Writes (Err NoMemory) c old new = (refusal c ≡ None) × (new ≡ old)
+Writes (Err fault) c old new = (refusal c ≡ Some fault) × (new ≡ old)
