@@ -1,10 +1,10 @@
 -- What is left of the bytes once something at their front was given out.
-use Rattle.std.proofs.Common.{Bool, subst, ◌≡◌, ℕ, ◌+◌, ◌-◌, ◌^◌, ◌<◌, ◌≤◌, min, List, [], ◌∷◌, ◌++◌, length, take, drop, refl, sym, ap, ◌∙◌, arith, Option, Some, None, Result, Ok, Err, length-drop, length-take}
+use Rattle.std.proofs.Common.{Bool, subst, ◌≡◌, ℕ, ◌+◌, ◌-◌, ◌≤◌, List, length, take, drop, refl, sym, ap, ◌∙◌, arith, Option, Some, None, Ok, length-drop}
 use Rattle.std.proofs.lemmas.List.{drop-drop, length-take-le}
 use Rattle.artery_frame.specs.declared.stream.Stream.{Stream}
 use Rattle.artery_frame.specs.declared.fault.FrameFault.{FrameFault}
-use Rattle.artery_frame.specs.Stream.{preamble_of, front_of}
-use Rattle.artery_frame.specs.Kept.{Kept, settled, settled_by, after_preamble, kept_answer, kept_given, given_by, unless_broken, answer_by, told}
+use Rattle.artery_frame.specs.Stream.{preamble_of}
+use Rattle.artery_frame.specs.Kept.{Kept, settled, kept_answer, kept_given, given_by, unless_broken, answer_by, told}
 
 abbrev pub kept : List ℕ → ℕ → ℕ → Option Stream → Option FrameFault → Bool → Kept
 kept items from place stream fault room = record { rest = drop from items; place = place; stream = stream; fault = fault; has_room = room }

@@ -1,12 +1,12 @@
 -- The whole frames at the front of some bytes.
-use Rattle.std.proofs.Common.{◌≡◌, ◌≢◌, ℕ, zero, suc, ◌+◌, ◌-◌, ◌<◌, ◌≤◌, List, [], ◌∷◌, ◌++◌, length, take, drop, refl, sym, ap, subst, ◌∙◌, arith, Option, Some, None, Result, Ok, Err, length-drop, length-append}
+use Rattle.std.proofs.Common.{◌≡◌, ◌≢◌, ℕ, zero, suc, ◌+◌, ◌≤◌, List, [], ◌∷◌, ◌++◌, length, take, drop, refl, sym, ap, ◌∙◌, arith, Option, Some, None, Result, Ok, Err, length-drop, length-append}
 use Rattle.std.proofs.lemmas.List.{drop-drop, drop-append-le, take_all}
 use Rattle.std.proofs.lemmas.Option.{slice_get_past}
 use Rattle.std.specs.Prelude.{slice_get}
 use Rattle.artery_frame.specs.declared.fault.FrameFault.{FrameFault}
-use Rattle.artery_frame.specs.Stream.{front_of, frames_in, frames_by, span, fault_of, BeginsWith, AreFrames, Ends}
+use Rattle.artery_frame.specs.Stream.{front_of, frames_in, frames_by, span, fault_of, AreFrames, Ends}
 use Rattle.artery_frame.specs.Standing.{after_all}
-use Rattle.artery_frame.proofs.Fronts.{Says, front_says, begins_front, front_begins, begins_stays, front_ends, no_frame_ends}
+use Rattle.artery_frame.proofs.Fronts.{Says, front_says, begins_front, front_begins, begins_stays, no_frame_ends}
 
 -- the frames, where the front is known
 frames_at : (n : ℕ) (bytes : List ℕ) (front : Result (Option (List ℕ)) FrameFault) → front_of bytes ≡ front

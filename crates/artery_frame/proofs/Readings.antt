@@ -1,15 +1,14 @@
 -- Every list of bytes has one reading, and a longer one keeps its frames.
-use Rattle.std.proofs.Common.{◌≡◌, ◌≢◌, ℕ, zero, suc, ◌+◌, ◌-◌, ◌<◌, ◌≤◌, List, [], ◌∷◌, ◌++◌, length, take, drop, refl, sym, ap, subst, ◌∙◌, arith, Option, Some, None, Result, Ok, Err, length-drop, length-append, append_assoc}
+use Rattle.std.proofs.Common.{◌≡◌, ℕ, ◌+◌, ◌≤◌, List, [], ◌∷◌, ◌++◌, length, take, drop, refl, sym, ap, subst, ◌∙◌, arith, Option, Some, None, Result, Ok, Err, length-drop, length-append, append_assoc}
 use Rattle.std.proofs.lemmas.List.{take-append-drop, take_at, drop_at, drop-drop, drop-append-le}
 use Rattle.std.specs.List.{flat_map, AllByRecursion}
-use Rattle.std.specs.Prelude.{slice_get}
 use Rattle.byteorder.specs.Endian.{little_bytes, little_number}
 use Rattle.byteorder.specs.Numbers.{little_number-reads_back}
 use Rattle.artery_frame.specs.declared.stream.Stream.{Stream}
 use Rattle.artery_frame.specs.declared.stream.Stream.TheVariants.{Control, Ordinary}
 use Rattle.artery_frame.specs.declared.fault.FrameFault.{FrameFault}
 use Rattle.artery_frame.specs.declared.fault.FrameFault.TheVariants.{BadMagic, BadStream, TooLong}
-use Rattle.artery_frame.specs.Stream.{Reading, IsReading, IsReadingBy, HasNoId, HasFrames, reading_of, reading_by, framed_reading, preamble_of, KeepsFrames, BeginsWith, AreFrames, Ends, preamble, framed, IsShort, whole_reading, frame_limit, id_of, place_of, front_of, frames_in, span, fault_of}
+use Rattle.artery_frame.specs.Stream.{Reading, IsReading, IsReadingBy, HasNoId, HasFrames, reading_of, reading_by, framed_reading, preamble_of, KeepsFrames, BeginsWith, AreFrames, Ends, preamble, framed, IsShort, whole_reading, front_of, frames_in, span}
 use Rattle.artery_frame.proofs.Fronts.{front_says, front_ends}
 use Rattle.artery_frame.proofs.Frames.{are_frames, only_frames, frames_end, first_stay, all_first}
 use Rattle.artery_frame.proofs.Preambles.{Tells, preamble_tells, preamble_none, preamble_made, preamble_magic, preamble_stream, preamble_stays, preamble_len}

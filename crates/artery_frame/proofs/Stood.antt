@@ -1,16 +1,16 @@
 -- What a `Deframer` keeps stands for what was fed and given, through each call.
-use Rattle.std.proofs.Common.{◌≡◌, ◌≢◌, ℕ, zero, suc, ◌+◌, ◌-◌, ◌^◌, ◌<◌, ◌≤◌, min, Bool, false, is_some, List, [], ◌∷◌, ◌++◌, length, take, drop, refl, sym, ap, subst, ◌∙◌, arith, inl, inr, ◌⊎◌, Option, Some, None, Result, Ok, Err, length-drop, length-append, append_assoc}
-use Rattle.std.proofs.lemmas.List.{drop-drop, drop-append-le, take_all, take-append-drop, take_more}
-use Rattle.std.proofs.lemmas.Option.{slice_get_past, slice_get_within, slice_get-get_or, get_or_from_slice_get}
+use Rattle.std.proofs.Common.{◌≡◌, ℕ, zero, suc, ◌+◌, ◌<◌, ◌≤◌, Bool, false, is_some, List, [], ◌∷◌, ◌++◌, length, take, drop, refl, sym, ap, subst, ◌∙◌, arith, inl, inr, Option, Some, None, Result, Ok, Err, length-drop, length-append, append_assoc}
+use Rattle.std.proofs.lemmas.List.{drop-drop, drop-append-le, take_all, take_more}
+use Rattle.std.proofs.lemmas.Option.{slice_get_past, slice_get_within, get_or_from_slice_get}
 use Rattle.std.proofs.lemmas.Bool.{cases_lt}
 use Rattle.std.specs.Prelude.{slice_get}
 use Rattle.artery_frame.specs.declared.stream.Stream.{Stream}
 use Rattle.artery_frame.specs.declared.fault.FrameFault.{FrameFault}
-use Rattle.artery_frame.specs.declared.fault.FrameFault.TheVariants.{BadMagic, BadStream, TooLong}
-use Rattle.artery_frame.specs.Stream.{Reading, reading_of, reading_by, preamble_of, place_of, front_of, frames_in, span, fault_of, frame_limit}
-use Rattle.artery_frame.specs.Kept.{Kept, told, nothing_kept, settled, settled_by, after_preamble, kept_fed, kept_answer, answer_by, preamble_answer, kept_given, given_by, unless_broken, fault_place}
-use Rattle.artery_frame.specs.Standing.{Stands, StandsBy, HasEnded, given_out, place_after, next_of, after_all, with_answer, AfterNext}
-use Rattle.artery_frame.proofs.Fronts.{front_says, front_ends, front_fault, Says}
+use Rattle.artery_frame.specs.declared.fault.FrameFault.TheVariants.{TooLong}
+use Rattle.artery_frame.specs.Stream.{Reading, reading_of, reading_by, preamble_of, front_of, frames_in, span, fault_of}
+use Rattle.artery_frame.specs.Kept.{Kept, told, nothing_kept, settled_by, after_preamble, kept_fed, kept_answer, answer_by, preamble_answer, kept_given, given_by, unless_broken}
+use Rattle.artery_frame.specs.Standing.{Stands, StandsBy, HasEnded, given_out, next_of, after_all, with_answer, AfterNext}
+use Rattle.artery_frame.proofs.Fronts.{front_says, front_fault, Says}
 use Rattle.artery_frame.proofs.Frames.{AreFirst, front_next, span_within, first_stay}
 use Rattle.artery_frame.proofs.Preambles.{preamble_stays, preamble_len, preamble_short, preamble_place}
 use Rattle.artery_frame.proofs.Readings.{reading_at, fits_behind}
@@ -281,7 +281,7 @@ fed_parts : (rest piece : List ℕ) (place : ℕ) (stream : Option Stream) (faul
 fed_parts rest piece place (Some stream) fault room = (refl, refl)
 fed_parts rest piece place None fault room = by_preamble (preamble_of (rest ++ piece)) where
   by_preamble : (p : Result (Option Stream) FrameFault)
-    → ((after_preamble (of_parts (rest ++ piece) place None fault room) p).has_room ≡ room) × ((after_preamble (of_parts (rest ++ piece) place None fault room) p).fault ≡ fault)
+      → ((after_preamble (of_parts (rest ++ piece) place None fault room) p).has_room ≡ room) × ((after_preamble (of_parts (rest ++ piece) place None fault room) p).fault ≡ fault)
   by_preamble (Ok (Some stream)) = (refl, refl)
   by_preamble (Ok None) = (refl, refl)
   by_preamble (Err fault) = (refl, refl)

@@ -1,11 +1,11 @@
 -- What a `Deframer` keeps of a stream, and what that stands for.
-use Rattle.std.specs.Prelude.{◌≡◌, ◌≢◌, ℕ, ◌+◌, ◌-◌, ◌^◌, ◌<◌, ◌≤◌, min, Bool, true, false, List, [], ◌∷◌, ◌++◌, length, take, drop, slice_get, Option, Some, None, Result, Ok, Err}
+use Rattle.std.specs.Prelude.{◌≡◌, ℕ, ◌+◌, ◌-◌, ◌^◌, ◌≤◌, min, Bool, List, [], ◌++◌, length, take, drop, Option, Some, None, Result, Ok, Err}
 use Rattle.std.specs.Borrow.{Bor}
 use Rattle.std.specs.Option.{option_copied}
 use Rattle.artery_frame.specs.declared.stream.Stream.{Stream}
 use Rattle.artery_frame.specs.declared.fault.FrameFault.{FrameFault}
 use Rattle.artery_frame.specs.declared.fault.FrameFault.TheVariants.{BadMagic, BadStream, TooLong}
-use Rattle.artery_frame.specs.Stream.{Reading, preamble_of, front_of, reading_of, AreFrames, span}
+use Rattle.artery_frame.specs.Stream.{preamble_of, front_of}
 
 -- The bytes fed and not yet given out, the place of the first of them (or of the fault that was
 -- answered), what the stream carries, the fault that was answered, and whether there is room.

@@ -216,9 +216,3 @@ pub record HasTexts (c : Contents) : Type 0 where
 -- The slices one after the other.
 abbrev pub joined : List (Bor (List ℕ)) → List ℕ
 joined slices = flat_map (λ slice. slice.now) slices
-
--- Written, refused for this, or without memory.
-abbrev pub Writes : Result (Unit {0}) EncodeFault → Contents → List ℕ → List ℕ → Type 0
-Writes (Ok u) c old new = (refusal c ≡ None) × (new ≡ old ++ canonical c)
-Writes (Err NoMemory) c old new = (refusal c ≡ None) × (new ≡ old)
-Writes (Err fault) c old new = (refusal c ≡ Some fault) × (new ≡ old)

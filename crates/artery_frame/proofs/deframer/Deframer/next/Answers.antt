@@ -1,5 +1,4 @@
 use Rattle.std.proofs.Common.{refl}
-use Rattle.artery_frame.specs.Kept.{seen}
 use Rattle.artery_frame.proofs.Stood.{answers_so, small_so, after_so}
 use Rattle.artery_frame.proofs.deframer.Deframer.next.Goals as goal
 
