@@ -1,7 +1,6 @@
 -- The layout of an envelope, its first fault, and its canonical bytes.
 use Rattle.std.specs.Prelude.{◌≡◌, ℕ, ◌+◌, ◌*◌, ◌%◌, ◌<◌, ◌≤◌, Bool, true, false, ◌==◌, nat_lt, if◌then◌else◌, ℤ, List, [], ◌∷◌, ◌++◌, length, take, drop, slice_index, Option, Some, None, Result, Ok, Err}
-use Rattle.std.specs.List.{list_all, flat_map}
-use Rattle.std.specs.Borrow.{Bor}
+use Rattle.std.specs.List.{list_all}
 use Rattle.std.specs.Str.{IsAscii}
 use Rattle.std.specs.Int.{cast_signed, cast_unsigned, w32}
 use Rattle.byteorder.specs.Endian.{little_number, little_bytes}
@@ -213,6 +212,6 @@ pub record HasTexts (c : Contents) : Type 0 where
   pub recipient : IsAsciiName c.recipient
   pub manifest : IsAsciiName c.manifest
 
--- The slices one after the other.
-abbrev pub joined : List (Bor (List ℕ)) → List ℕ
-joined slices = flat_map (λ slice. slice.now) slices
+-- The new list begins with the old one.
+abbrev pub IsFrontOf : List ℕ → List ℕ → Type 0
+IsFrontOf old new = take (length old) new ≡ old

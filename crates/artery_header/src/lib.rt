@@ -3,7 +3,6 @@
 //! that they stand for, or their first fault; writing appends the one canonical spelling.
 #![tactic(auto)]
 
-mod append;
 mod envelope;
 mod fault;
 mod numbers;

@@ -1,7 +1,8 @@
 ghost use Rattle.std.specs.Prelude.{◌≡◌, ◌+◌, ◌*◌, ◌^◌, ◌<◌, ◌≤◌, ◌++◌, false, length, take, IsOkUnless, IfSome, None, Err, OnOk, OnErr};
-ghost use Rattle.artery_header.specs.Envelope.{contents, named, canonical, canonical_len, refusal, HasTexts, spelled, spelled_len, tag_of, is_long};
+ghost use Rattle.artery_header.specs.Envelope.{contents, named, canonical, canonical_len, refusal, HasTexts, spelled, spelled_len, tag_of, is_long, header, IsFrontOf};
+ghost use Rattle.std.specs.Int.{cast_unsigned, w32};
+ghost use Rattle.byteorder.specs.Endian.{little_bytes};
 
-use crate::append::append_all;
 use crate::envelope::{Envelope, Name, Which};
 use crate::fault::EncodeFault;
 use artery_base::{Bytes, NoMemory};
@@ -51,32 +52,32 @@ fn tag_of(name: &Name<'_>, at: usize) -> u32
     }
 }
 
-/// A literal's length as it is written, of which so many bytes count, and its text.
-#[derive(Drop)]
-struct Spelled<'a> {
-    length: [u8; 2],
-    count: usize,
-    text: &'a [u8],
-}
-
-/// What is written of the name behind the header.
-fn spell<'a>(name: &Name<'a>) -> Spelled<'a>
+/// Appends what stands behind the header for the name. Without memory nothing changes.
+fn append_name(name: &Name<'_>, out: &mut Bytes) -> Result<(), NoMemory>
     requires { is_long (named name.now) ≡ false }
-    ensures count { result.count ≤ 2 }
-    ensures bytes { take result.count result.length ++ result.text.now ≡ spelled (named name.now) }
+    ensures ok { OnOk result (out.new ≡ out.old ++ spelled (named name.now)) }
+    ensures err { OnErr result (out.new ≡ out.old) }
 {
     match name {
-        Name::Literal(text) => Spelled {
-            length: (text.len() as u16).to_le_bytes(),
-            count: 2,
-            text,
-        },
-        Name::Index(_) => Spelled {
-            length: [0, 0],
-            count: 0,
-            text: &[],
-        },
+        Name::Literal(text) => append_text(text, out),
+        Name::Index(_) => Ok(()),
     }
+}
+
+/// Appends a text behind its length. Without memory nothing changes.
+fn append_text(text: &[u8], out: &mut Bytes) -> Result<(), NoMemory>
+    requires { length text.now ≤ 65535 }
+    ensures ok { OnOk result (out.new ≡ out.old ++ (little_bytes 2 (length text.now) ++ text.now)) }
+    ensures err { OnErr result (out.new ≡ out.old) }
+{
+    let before = out.len();
+    let len = text.len() as u16;
+    out.extend_from_slice(&len.to_le_bytes())?;
+    let added = out.extend_from_slice(text);
+    if added.is_err() {
+        out.truncate(before);
+    }
+    added
 }
 
 /// How many bytes the envelope has.
@@ -110,6 +111,74 @@ fn refusal(envelope: &Envelope<'_>) -> Option<EncodeFault>
     None
 }
 
+/// The serializer's number as it is written.
+fn serializer_of(envelope: &Envelope<'_>) -> [u8; 4]
+    ensures { result ≡ little_bytes 4 (cast_unsigned w32 envelope.now.serializer) }
+{
+    envelope.serializer.to_le_bytes()
+}
+
+/// The header.
+fn header_of(envelope: &Envelope<'_>) -> [u8; 28]
+    requires sender { is_long (named envelope.now.sender) ≡ false }
+    requires recipient { is_long (named envelope.now.recipient) ≡ false }
+    ensures { result ≡ header (contents envelope.now) }
+{
+    let recipient_at = HEADER_LEN + spelled_len(&envelope.sender);
+    let manifest_at = recipient_at + spelled_len(&envelope.recipient);
+    let uid = envelope.uid.to_le_bytes();
+    let serializer = serializer_of(envelope);
+    let sender = tag_of(&envelope.sender, HEADER_LEN).to_le_bytes();
+    let recipient = tag_of(&envelope.recipient, recipient_at).to_le_bytes();
+    let manifest = tag_of(&envelope.manifest, manifest_at).to_le_bytes();
+    [
+        0,
+        0,
+        envelope.refs_version,
+        envelope.manifests_version,
+        uid[0],
+        uid[1],
+        uid[2],
+        uid[3],
+        uid[4],
+        uid[5],
+        uid[6],
+        uid[7],
+        serializer[0],
+        serializer[1],
+        serializer[2],
+        serializer[3],
+        sender[0],
+        sender[1],
+        sender[2],
+        sender[3],
+        recipient[0],
+        recipient[1],
+        recipient[2],
+        recipient[3],
+        manifest[0],
+        manifest[1],
+        manifest[2],
+        manifest[3],
+    ]
+}
+
+/// Appends the envelope; without memory only a front of it.
+#[tactic(auto, using(crate::proofs::Canonical::in_front, crate::proofs::Canonical::front_more, crate::proofs::Canonical::front_same))]
+fn append_parts(envelope: &Envelope<'_>, out: &mut Bytes) -> Result<(), NoMemory>
+    requires sender { is_long (named envelope.now.sender) ≡ false }
+    requires recipient { is_long (named envelope.now.recipient) ≡ false }
+    requires manifest { is_long (named envelope.now.manifest) ≡ false }
+    ensures ok { OnOk result (out.new ≡ out.old ++ canonical (contents envelope.now)) }
+    ensures err { OnErr result (IsFrontOf out.old out.new) }
+{
+    out.extend_from_slice(&header_of(envelope))?;
+    append_name(&envelope.sender, out)?;
+    append_name(&envelope.recipient, out)?;
+    append_name(&envelope.manifest, out)?;
+    out.extend_from_slice(envelope.payload)
+}
+
 /// Appends the envelope. Without memory nothing changes.
 fn append_envelope(envelope: &Envelope<'_>, out: &mut Bytes) -> Result<(), NoMemory>
     requires sender { is_long (named envelope.now.sender) ≡ false }
@@ -118,33 +187,12 @@ fn append_envelope(envelope: &Envelope<'_>, out: &mut Bytes) -> Result<(), NoMem
     ensures ok { OnOk result (out.new ≡ out.old ++ canonical (contents envelope.now)) }
     ensures err { OnErr result (out.new ≡ out.old) }
 {
-    let recipient_at = HEADER_LEN + spelled_len(&envelope.sender);
-    let manifest_at = recipient_at + spelled_len(&envelope.recipient);
-    let versions = [0, 0, envelope.refs_version, envelope.manifests_version];
-    let uid = envelope.uid.to_le_bytes();
-    let serializer = envelope.serializer.to_le_bytes();
-    let sender_tag = tag_of(&envelope.sender, HEADER_LEN).to_le_bytes();
-    let recipient_tag = tag_of(&envelope.recipient, recipient_at).to_le_bytes();
-    let manifest_tag = tag_of(&envelope.manifest, manifest_at).to_le_bytes();
-    let sender = spell(&envelope.sender);
-    let recipient = spell(&envelope.recipient);
-    let manifest = spell(&envelope.manifest);
-    let parts: [&[u8]; 13] = [
-        &versions,
-        &uid,
-        &serializer,
-        &sender_tag,
-        &recipient_tag,
-        &manifest_tag,
-        &sender.length[..sender.count],
-        sender.text,
-        &recipient.length[..recipient.count],
-        recipient.text,
-        &manifest.length[..manifest.count],
-        manifest.text,
-        envelope.payload,
-    ];
-    append_all(&parts, out)
+    let before = out.len();
+    let added = append_parts(envelope, out);
+    if added.is_err() {
+        out.truncate(before);
+    }
+    added
 }
 
 /// Appends the canonical bytes of the envelope, whose literals are ASCII. `LiteralLong` names the first
