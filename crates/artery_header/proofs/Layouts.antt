@@ -1,6 +1,6 @@
 -- What is read is laid out so, and what is laid out so is read.
-use Rattle.std.proofs.Common.{◌≡◌, ◌≢◌, ℕ, zero, suc, ◌+◌, ◌-◌, ◌%◌, ◌<◌, ◌≤◌, Bool, true, false, cond, eqb, ltb, ℤ, List, [], ◌∷◌, ◌++◌, length, take, drop, get_or, refl, sym, ap, subst, ◌∙◌, ◌⊎◌, inl, inr, arith, Option, Some, None, Result, Ok, Err, length-drop, length-append}
-use Rattle.std.proofs.lemmas.Bool.{cond_both, eqb-true, eqb-false, eq-eqb, ne_eqb, lt-ltb, le-ltb, ltb-true, ltb-false, cond-true, cond-false}
+use Rattle.std.proofs.Common.{◌≡◌, ℕ, ◌+◌, ◌%◌, ◌<◌, ◌≤◌, Bool, true, false, cond, eqb, ltb, ℤ, List, [], ◌∷◌, length, take, drop, get_or, refl, sym, ap, subst, ◌∙◌, ◌⊎◌, inl, inr, arith, Result, Ok, Err, length-drop}
+use Rattle.std.proofs.lemmas.Bool.{eqb-true, eq-eqb, lt-ltb, le-ltb, ltb-true, ltb-false, cond-true, cond-false}
 use Rattle.std.proofs.lemmas.List.{length-take-le, drop-drop}
 use Rattle.std.specs.Int.{cast_signed, w32}
 use Rattle.byteorder.specs.Endian.{little_number}
@@ -8,7 +8,7 @@ use Rattle.artery_header.specs.declared.envelope.Which.{Which}
 use Rattle.artery_header.specs.declared.envelope.Which.TheVariants.{Sender, Recipient, Manifest}
 use Rattle.artery_header.specs.declared.fault.HeaderFault.{HeaderFault}
 use Rattle.artery_header.specs.declared.fault.HeaderFault.TheVariants.{Short, Version, Metadata, LiteralPast, NotAscii}
-use Rattle.artery_header.specs.Envelope.{Named, Text, Number, Contents, IsLaidOut, HasTag, BeginsWithText, AreTexts, is_text, header_len, first_index_tag, text_by, text_at, name_at, body_of, read_of, ◌>>=◌}
+use Rattle.artery_header.specs.Envelope.{Named, Text, Number, Contents, IsLaidOut, HasTag, BeginsWithText, AreTexts, HasTexts, IsAsciiName, is_text, first_index_tag, text_by, text_at, name_at, body_of, read_of, ◌>>=◌}
 
 -- a good header is read on
 pub read_on : (bytes : List ℕ) → 28 ≤ length bytes → get_or bytes 0 0 ≡ 0 → get_or bytes 1 0 % 2 ≡ 0 → read_of bytes ≡ body_of bytes (drop 28 bytes)
@@ -48,19 +48,23 @@ text_is which tag bytes x t e =
     let size : length (take len more) ≡ len = length-take-le len more (ltb-false _ _ within.0) in
     let same : (Text (take len more), drop len more) ≡ x = cc in
     let P : Named × List ℕ → Type 0 = λ y. IsName tag bytes y.0 y.1 in
-    subst P same (t, record {
-      whole = rw size (omega (arith, ltb-false _ _ within.0, ltb-false _ _ two.0, length-drop 2 bytes));
-      spelled = sym size;
-      same = rw size refl;
-      ascii = text.0;
-    }, rw size (drop-drop len 2 bytes))
+    subst P same (
+      t,
+      record {
+        whole = rw size (omega (arith, ltb-false _ _ within.0, ltb-false _ _ two.0, length-drop 2 bytes));
+        spelled = sym size;
+        same = rw size refl;
+        ascii = text.0;
+      },
+      rw size (drop-drop len 2 bytes),
+    )
 
 pub name_is : (which : Which) (tag : ℕ) (bytes : List ℕ) (x : Named × List ℕ) → name_at which tag bytes ≡ Ok x → IsName tag bytes x.0 x.1
 unfolding name_at
 name_is which tag bytes x e = elim (chosen (ltb tag first_index_tag) (text_at which bytes) (Ok (Number (tag % 65536), bytes)) (Ok x) e) [
-    inl h ↦ text_is which tag bytes x (ltb-true _ _ h.0) h.1
+  | inl h ↦ text_is which tag bytes x (ltb-true _ _ h.0) h.1
   | inr h ↦ (let same : (Number (tag % 65536), bytes) ≡ x = cc in let P : Named × List ℕ → Type 0 = λ y. IsName tag bytes y.0 y.1 in subst P same (ltb-false _ _ h.0, refl, refl))
-  ]
+]
 
 text_made : (which : Which) (bytes text : List ℕ) → BeginsWithText text bytes → text_at which bytes ≡ Ok (Text text, drop (2 + length text) bytes)
 unfolding text_at
@@ -91,8 +95,14 @@ names_less tag bytes (Number i) names payload t a = (bytes, (t.0, t.1, refl), a)
 -- an envelope by its parts
 abbrev of_parts : ℕ → ℕ → ℕ → ℤ → Named → Named → Named → List ℕ → Contents
 of_parts uid refs manifests serializer sender recipient manifest payload = record {
-  uid = uid; refs_version = refs; manifests_version = manifests; serializer = serializer;
-  sender = sender; recipient = recipient; manifest = manifest; payload = payload;
+  uid = uid;
+  refs_version = refs;
+  manifests_version = manifests;
+  serializer = serializer;
+  sender = sender;
+  recipient = recipient;
+  manifest = manifest;
+  payload = payload;
 }
 
 abbrev fields : List ℕ → Named → Named → Named → List ℕ → Contents
@@ -137,8 +147,17 @@ body_laid_out bytes c whole version metadata e =
     let ns = names_more _ _ s.0.0 s.0.1 (name_is Sender _ (drop 28 bytes) s.0 s.1) _ m.0.1 nr.1 in
     let P : Contents → Type 0 = IsLaidOut bytes in
     subst P same (record {
-      whole = whole; version = version; metadata = metadata; refs_version = refl; manifests_version = refl; uid = refl; serializer = refl;
-      sender = ns.0; recipient = nr.0; manifest = nm.0; rest = ns.1;
+      whole = whole;
+      version = version;
+      metadata = metadata;
+      refs_version = refl;
+      manifests_version = refl;
+      uid = refl;
+      serializer = refl;
+      sender = ns.0;
+      recipient = nr.0;
+      manifest = nm.0;
+      rest = ns.1;
     })
 
 pub read_laid_out : (bytes : List ℕ) (c : Contents) → read_of bytes ≡ Ok c → IsLaidOut bytes c
@@ -148,3 +167,15 @@ read_laid_out bytes c e =
     let version = keep (eqb (get_or bytes 0 0) 0) (Version (get_or bytes 0 0)) _ c whole.1 in
     let metadata = keep (eqb (get_or bytes 1 0 % 2) 0) Metadata (body_of bytes (drop 28 bytes)) c version.1 in
     body_laid_out bytes c (ltb-false _ _ whole.0) (eqb-true _ _ version.0) (eqb-true _ _ metadata.0) metadata.1
+
+-- the texts that are laid out are ASCII
+text_first : (n : Named) (names : List Named) (payload bytes : List ℕ) → AreTexts (n ∷ names) payload bytes → IsAsciiName n × ((rest : List ℕ) × AreTexts names payload rest)
+text_first (Text text) names payload bytes h = (h.0.ascii, (drop (2 + length text) bytes, h.1))
+text_first (Number i) names payload bytes h = (tt, (bytes, h))
+
+pub laid_out_texts : (bytes : List ℕ) (c : Contents) → IsLaidOut bytes c → HasTexts c
+laid_out_texts bytes c h =
+    let s = text_first c.sender (c.recipient ∷ c.manifest ∷ []) c.payload (drop 28 bytes) h.rest in
+    let r = text_first c.recipient (c.manifest ∷ []) c.payload s.1.0 s.1.1 in
+    let m = text_first c.manifest [] c.payload r.1.0 r.1.1 in
+    record { sender = s.0; recipient = r.0; manifest = m.0 }

@@ -1,2 +1,3 @@
 pub mod Layouts
 pub mod Canonical
+pub mod Written

@@ -1,8 +1,8 @@
 -- The layout of an envelope, its first fault, and its canonical bytes.
-use Rattle.std.specs.Prelude.{◌≡◌, ℕ, ◌+◌, ◌*◌, ◌%◌, ◌<◌, ◌≤◌, Bool, true, false, ◌==◌, nat_lt, if◌then◌else◌, ℤ, List, [], ◌∷◌, ◌++◌, length, take, drop, slice_index, Option, Some, None, Result, Ok, Err}
+use Rattle.std.specs.Prelude.{◌≡◌, ℕ, ◌+◌, ◌%◌, ◌<◌, ◌≤◌, Bool, true, false, ◌==◌, nat_lt, if◌then◌else◌, ℤ, List, [], ◌∷◌, ◌++◌, length, take, drop, slice_index, Option, Some, None, Result, Ok, Err}
 use Rattle.std.specs.List.{list_all}
-use Rattle.std.specs.Str.{IsAscii}
 use Rattle.std.specs.Int.{cast_signed, cast_unsigned, w32}
+use Rattle.std.specs.Prelude.{◌^◌, FitsSigned}
 use Rattle.byteorder.specs.Endian.{little_number, little_bytes}
 use Rattle.artery_header.specs.declared.envelope.Which.{Which}
 use Rattle.artery_header.specs.declared.envelope.Which.TheVariants.{Sender, Recipient, Manifest}
@@ -12,7 +12,7 @@ use Rattle.artery_header.specs.declared.envelope.Envelope.{Envelope}
 use Rattle.artery_header.specs.declared.fault.HeaderFault.{HeaderFault}
 use Rattle.artery_header.specs.declared.fault.HeaderFault.TheVariants.{Short, Version, Metadata, LiteralPast, NotAscii}
 use Rattle.artery_header.specs.declared.fault.EncodeFault.{EncodeFault}
-use Rattle.artery_header.specs.declared.fault.EncodeFault.TheVariants.{LiteralLong, FrameLong, NoMemory}
+use Rattle.artery_header.specs.declared.fault.EncodeFault.TheVariants.{LiteralLong, FrameLong}
 
 -- A name without where its text lies: a text, or a number in a table.
 pub data Named : Type 0 where
@@ -133,7 +133,7 @@ unfoldable pub read_of : List ℕ → Result Contents HeaderFault
 read_of bytes =
     if nat_lt (length bytes) header_len then Err (Short (length bytes))
     else if slice_index bytes 0 == 0 then
-      (if slice_index bytes 1 % 2 == 0 then body_of bytes (drop 28 bytes) else Err Metadata)
+    (if slice_index bytes 1 % 2 == 0 then body_of bytes (drop 28 bytes) else Err Metadata)
     else Err (Version (slice_index bytes 0))
 
 -- What a function returned, seen by view, is what was read.
@@ -215,3 +215,16 @@ pub record HasTexts (c : Contents) : Type 0 where
 -- The new list begins with the old one.
 abbrev pub IsFrontOf : List ℕ → List ℕ → Type 0
 IsFrontOf old new = take (length old) new ≡ old
+
+-- The number of a name fits into its two bytes.
+abbrev pub IsName : Named → Type 0
+IsName (Text text) = Unit {0}
+IsName (Number i) = i < 65536
+
+-- The numbers of the envelope fit into their fields.
+pub record IsEnvelope (c : Contents) : Type 0 where
+  pub uid : c.uid < 2 ^ 64
+  pub serializer : FitsSigned w32 c.serializer
+  pub sender : IsName c.sender
+  pub recipient : IsName c.recipient
+  pub manifest : IsName c.manifest

@@ -5,11 +5,15 @@
 
 mod envelope;
 mod fault;
+mod laws;
 mod numbers;
 mod read;
+#[cfg(test)]
+mod tests;
 mod write;
 
 pub use envelope::{Envelope, Name, Which};
 pub use fault::{EncodeFault, HeaderFault};
+pub use laws::written_is_read;
 pub use read::read_envelope;
 pub use write::{FRAME_LIMIT, LITERAL_LIMIT, write_envelope};

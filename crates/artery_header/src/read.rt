@@ -1,5 +1,5 @@
 ghost use Rattle.std.specs.Prelude.{◌≡◌, ◌+◌, ◌≤◌, ℕ, List, length, drop, IfOk, Ok};
-ghost use Rattle.artery_header.specs.Envelope.{Contents, IsLaidOut, Gives, contents, named, text_at, name_at, body_of, read_of};
+ghost use Rattle.artery_header.specs.Envelope.{Contents, IsLaidOut, HasTexts, Gives, contents, named, text_at, name_at, body_of, read_of};
 
 use crate::envelope::{Envelope, Name, Which};
 use crate::fault::HeaderFault;
@@ -91,6 +91,7 @@ fn read_exactly(bytes: &[u8]) -> Result<Envelope<'_>, HeaderFault>
 pub fn read_envelope(bytes: &[u8]) -> Result<Envelope<'_>, HeaderFault>
     ensures found { IfOk result (λ e. IsLaidOut bytes.now (contents e)) }
     ensures only { (c : Contents) → IsLaidOut bytes.now c → Gives contents result (Ok c) }
+    ensures texts { IfOk result (λ e. HasTexts (contents e)) }
     ensures exact { Gives contents result (read_of bytes.now) }
 {
     read_exactly(bytes)

@@ -87,7 +87,9 @@ fn envelope_len(envelope: &Envelope<'_>) -> usize
     requires manifest { is_long (named envelope.now.manifest) ≡ false }
     ensures { result ≡ canonical_len (contents envelope.now) }
 {
-    let names = spelled_len(&envelope.sender) + spelled_len(&envelope.recipient) + spelled_len(&envelope.manifest);
+    let names = spelled_len(&envelope.sender)
+        + spelled_len(&envelope.recipient)
+        + spelled_len(&envelope.manifest);
     HEADER_LEN + names + envelope.payload.len()
 }
 
@@ -96,13 +98,19 @@ fn refusal(envelope: &Envelope<'_>) -> Option<EncodeFault>
     ensures { result ≡ refusal (contents envelope.now) }
 {
     if is_long(&envelope.sender) {
-        return Some(EncodeFault::LiteralLong { which: Which::Sender });
+        return Some(EncodeFault::LiteralLong {
+            which: Which::Sender,
+        });
     }
     if is_long(&envelope.recipient) {
-        return Some(EncodeFault::LiteralLong { which: Which::Recipient });
+        return Some(EncodeFault::LiteralLong {
+            which: Which::Recipient,
+        });
     }
     if is_long(&envelope.manifest) {
-        return Some(EncodeFault::LiteralLong { which: Which::Manifest });
+        return Some(EncodeFault::LiteralLong {
+            which: Which::Manifest,
+        });
     }
     let len = envelope_len(envelope);
     if len > FRAME_LIMIT {

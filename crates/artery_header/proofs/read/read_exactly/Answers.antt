@@ -1,4 +1,4 @@
-use Rattle.std.proofs.Common.{◌≡◌, ℕ, List, drop, take, length, ◌-◌, ◌%◌, get_or, ap, sym, subst, ◌∙◌, arith, Result}
+use Rattle.std.proofs.Common.{◌≡◌, drop, take, length, ◌-◌, ap, sym, subst, ◌∙◌, arith, Result}
 use Rattle.std.proofs.lemmas.List.{take_rest}
 use Rattle.artery_header.specs.declared.fault.HeaderFault.{HeaderFault}
 use Rattle.artery_header.specs.Envelope.{Contents, Gives, contents, body_of, read_of}
