@@ -1,0 +1,6 @@
+pub mod Cuts
+pub mod Fronts
+pub mod Frames
+pub mod Preambles
+pub mod Readings
+pub mod Stood

@@ -1,0 +1,3 @@
+pub mod Layouts
+pub mod Canonical
+pub mod Written

@@ -1,0 +1,83 @@
+-- What was written is read again.
+use Rattle.std.proofs.Common.{◌≡◌, ℕ, ◌+◌, ◌<◌, ◌≤◌, Bool, true, false, cond, ℤ, List, [], ◌∷◌, ◌++◌, length, take, drop, refl, sym, ap, subst, ◌∙◌, arith, lit<, Some, None, Ok, FitsSigned, length-append, append_assoc}
+use Rattle.std.proofs.lemmas.List.{take_at, drop_at}
+use Rattle.std.proofs.lemmas.Bool.{ltb-false}
+use Rattle.std.proofs.lemmas.Int.{ints, to_z-of_z}
+use Rattle.std.specs.Int.{cast_signed, cast_unsigned, w32}
+use Rattle.byteorder.specs.Endian.{little_bytes, little_number}
+use Rattle.byteorder.specs.Numbers.{little_number-reads_back}
+use Rattle.artery_header.specs.declared.fault.EncodeFault.{EncodeFault}
+use Rattle.artery_header.specs.Envelope.{Named, Text, Number, Contents, IsLaidOut, HasTag, AreTexts, IsName, IsEnvelope, HasTexts, IsAsciiName, header, header_len, first_index_tag, tag_of, recipient_at, manifest_at, spelled, spelled_len, canonical, refusal, is_long, literal_limit, read_of}
+use Rattle.artery_header.proofs.Layouts.{laid_out_read}
+
+-- a name that is not too long stands in front of what follows
+names_written : (n : Named) (names : List Named) (payload rest : List ℕ) → is_long n ≡ false → IsAsciiName n → AreTexts names payload rest → AreTexts (n ∷ names) payload (spelled n ++ rest)
+names_written (Number i) names payload rest l a t = t
+names_written (Text text) names payload rest l a t =
+    let short : length text ≤ literal_limit = ltb-false _ _ l in
+    let group : (little_bytes 2 (length text) ++ text) ++ rest ≡ little_bytes 2 (length text) ++ (text ++ rest) = append_assoc (little_bytes 2 (length text)) text rest in
+    let P : List ℕ → Type 0 = AreTexts names payload in (
+      record {
+        whole = omega (arith, length-append (little_bytes 2 (length text) ++ text) rest, length-append (little_bytes 2 (length text)) text);
+        spelled = ap (little_number 2) group ∙ little_number-reads_back 2 (length text) (text ++ rest) (omega arith);
+        same = ap (λ (w : List ℕ). take (length text) (drop 2 w)) group ∙ take_at text rest (length text) refl;
+        ascii = a;
+      },
+      subst P (sym (drop_at (little_bytes 2 (length text) ++ text) rest (2 + length text) (length-append (little_bytes 2 (length text)) text))) t,
+    )
+
+has_tag : (at : ℕ) (n : Named) → at < first_index_tag → IsName n → HasTag (tag_of at n) n
+has_tag at (Text text) h f = h
+has_tag at (Number i) h f = (omega arith, omega arith)
+
+tag_fits : (at : ℕ) (n : Named) → at < first_index_tag → IsName n → tag_of at n < 4294967296
+tag_fits at (Text text) h f = omega arith
+tag_fits at (Number i) h f = omega arith
+
+small_name : (n : Named) → is_long n ≡ false → spelled_len n ≤ 65537
+small_name (Text text) l = omega (arith, ltb-false literal_limit (length text) l)
+small_name (Number i) l = omega arith
+
+-- what is not refused has no long name
+none_long : (a b d e : Bool) (w x y z : EncodeFault) → cond a (Some w) (cond b (Some x) (cond d (Some y) (cond e (Some z) None))) ≡ None → (a ≡ false) × (b ≡ false) × (d ≡ false)
+none_long true b d e w x y z h = absurd (cc)
+none_long false true d e w x y z h = absurd (cc)
+none_long false false true e w x y z h = absurd (cc)
+none_long false false false e w x y z h = (refl, refl, refl)
+
+pub short_names : (c : Contents) → refusal c ≡ None → (is_long c.sender ≡ false) × (is_long c.recipient ≡ false) × (is_long c.manifest ≡ false)
+short_names c h = none_long (is_long c.sender) (is_long c.recipient) (is_long c.manifest) _ _ _ _ _ h
+
+-- the signed number is read again
+signed_again : (z : ℤ) → FitsSigned w32 z → cast_signed w32 (cast_unsigned w32 z) ≡ z
+signed_again z f = to_z-of_z w32 z f
+
+unsigned_fits : (z : ℤ) → FitsSigned w32 z → cast_unsigned w32 z < 4294967296
+unsigned_fits z f = omega (arith, ints)
+
+canonical_laid_out : (c : Contents) → IsEnvelope c → HasTexts c → (is_long c.sender ≡ false) × (is_long c.recipient ≡ false) × (is_long c.manifest ≡ false) → IsLaidOut (canonical c) c
+unfolding header
+canonical_laid_out c v t s =
+    let at_recipient : recipient_at c < first_index_tag = omega (arith, small_name c.sender s.0) in
+    let at_manifest : manifest_at c < first_index_tag = omega (arith, small_name c.sender s.0, small_name c.recipient s.1) in
+    let tag = λ (at : ℕ) (n : Named) (h : at < first_index_tag) (f : IsName n). let P : ℕ → Type 0 = λ k. HasTag k n in subst P (sym (little_number-reads_back 4 (tag_of at n) [] (tag_fits at n h f))) (has_tag at n h f) in
+    let texts : List ℕ = spelled c.sender ++ (spelled c.recipient ++ (spelled c.manifest ++ c.payload)) in
+    let P : List ℕ → Type 0 = AreTexts (c.sender ∷ c.recipient ∷ c.manifest ∷ []) c.payload in
+    let group : texts ≡ ((spelled c.sender ++ spelled c.recipient) ++ spelled c.manifest) ++ c.payload = simp append_assoc in
+    record {
+      whole = omega (arith, length-append (((header c ++ spelled c.sender) ++ spelled c.recipient) ++ spelled c.manifest) c.payload, length-append ((header c ++ spelled c.sender) ++ spelled c.recipient) (spelled c.manifest), length-append (header c ++ spelled c.sender) (spelled c.recipient), length-append (header c) (spelled c.sender));
+      version = refl;
+      metadata = refl;
+      refs_version = refl;
+      manifests_version = refl;
+      uid = little_number-reads_back 8 c.uid [] v.uid;
+      serializer = ap (cast_signed w32) (little_number-reads_back 4 (cast_unsigned w32 c.serializer) [] (unsigned_fits c.serializer v.serializer)) ∙ signed_again c.serializer v.serializer;
+      sender = tag header_len c.sender (lit< tt) v.sender;
+      recipient = tag (recipient_at c) c.recipient at_recipient v.recipient;
+      manifest = tag (manifest_at c) c.manifest at_manifest v.manifest;
+      rest = subst P group (names_written c.sender _ c.payload _ s.0 t.sender (names_written c.recipient _ c.payload _ s.1 t.recipient (names_written c.manifest [] c.payload c.payload s.2 t.manifest refl)));
+    }
+
+-- the canonical bytes of an envelope that is not refused are read as it
+pub written_read : (c : Contents) → IsEnvelope c → HasTexts c → refusal c ≡ None → read_of (canonical c) ≡ Ok c
+written_read c v t n = laid_out_read (canonical c) c (canonical_laid_out c v t (short_names c n))
