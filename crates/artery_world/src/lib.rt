@@ -10,6 +10,7 @@ mod lines;
 mod link;
 mod node;
 mod peer;
+mod printing;
 mod script;
 mod world;
 
@@ -18,4 +19,5 @@ pub use fault::{Why, WorldFault, WorldLimit};
 pub use laws::prefix_law;
 pub use line::Line;
 pub use lines::Lines;
+pub use printing::{print_line, print_lines};
 pub use script::ScriptLine;
