@@ -9,3 +9,4 @@ pub mod Runs
 pub mod Pumping
 pub mod Telling
 pub mod Places
+pub mod Cuts

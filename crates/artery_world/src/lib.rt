@@ -3,6 +3,7 @@
 
 mod copies;
 mod event;
+mod event_text;
 mod fault;
 mod laws;
 mod line;
@@ -15,9 +16,10 @@ mod script;
 mod world;
 
 pub use event::{Event, Parcel, Pending};
+pub use event_text::{LineFault, read_event};
 pub use fault::{Why, WorldFault, WorldLimit};
 pub use laws::prefix_law;
 pub use line::Line;
 pub use lines::Lines;
 pub use printing::{print_line, print_lines};
-pub use script::ScriptLine;
+pub use script::{Script, ScriptFault, ScriptLine, read_script};
