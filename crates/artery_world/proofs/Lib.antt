@@ -10,3 +10,4 @@ pub mod Pumping
 pub mod Telling
 pub mod Places
 pub mod Cuts
+pub mod EventLaws

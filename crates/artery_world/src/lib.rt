@@ -13,6 +13,7 @@ mod node;
 mod peer;
 mod printing;
 mod script;
+mod spelling;
 mod world;
 
 pub use event::{Event, Parcel, Pending};
@@ -23,3 +24,4 @@ pub use line::Line;
 pub use lines::Lines;
 pub use printing::{print_line, print_lines};
 pub use script::{Script, ScriptFault, ScriptLine, read_script};
+pub use spelling::events_are_spelled;
