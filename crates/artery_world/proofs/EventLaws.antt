@@ -6,7 +6,7 @@ use Rattle.std.specs.Int.{w32, is_in_range}
 use Rattle.std.specs.List.{list_all, slice_split, join_with_byte}
 use Rattle.std.specs.Result.{result_ok}
 use Rattle.std.proofs.lemmas.Bool.Decides.{nat_tests}
-use Rattle.std.proofs.lemmas.Bool.{ltb-false, ltb-true}
+use Rattle.std.proofs.lemmas.Bool.{ltb-false, le-ltb}
 use Rattle.std.proofs.lemmas.List.{append-nil}
 use Rattle.std.proofs.lemmas.List.Splits.{join_with_byte-slice_split}
 use Rattle.std.proofs.lemmas.Slice.Eq.{bytes_eq-Decides}
@@ -29,7 +29,7 @@ use Rattle.artery_world.specs.declared.event.Event.{Event}
 use Rattle.artery_world.specs.declared.event.Event.TheVariants.{Start, At, Pass}
 use Rattle.artery_world.specs.declared.event_text.TheConstants.{MOST_ROUNDS, MOST_MANIFEST, MOST_PAYLOAD}
 use Rattle.artery_world.specs.Texts.{message_text}
-use Rattle.artery_world.specs.Script.{request_text, event_text, IsMessage, IsRequest, IsEvent, ◌>>=◌, is_space, tokens_of, at_end, no_longer, address_told, manifest_told, payload_told, message_of, message_in, pair_in, send_in, request_in, start_of, start_in, at_in, rounds_of, pass_in, event_in, event_of}
+use Rattle.artery_world.specs.Script.{request_text, event_text, IsMessage, IsRequest, IsEvent, HasBytes, RequestHasBytes, EventHasBytes, ◌>>=◌, is_space, tokens_of, at_end, no_longer, address_told, manifest_told, payload_told, message_of, message_in, pair_in, send_in, request_in, start_of, start_in, at_in, rounds_of, pass_in, event_in, event_of}
 use Rattle.artery_world.proofs.Cuts.{whole_part, first_part}
 
 -- ---- readings that gave something
@@ -225,3 +225,84 @@ pub event_of-Some : (text : List ℕ) (e : Event) → event_of text ≡ Some e �
 event_of-Some text e h =
     let s = told_spelled (tokens_of text) e h in
     (s.valid, sym (join_with_byte-slice_split 32 text) ∙ s.row)
+
+-- ---- what is spelled is read
+
+visible_no_space : (b : ℕ) → is_visible b ≡ true → not (is_space b) ≡ true
+visible_no_space b h = grind (arith, nat_tests)
+
+no_space : (text : List ℕ) → IsToken text → list_all (λ b. not (is_space b)) text ≡ true
+no_space text h = all_weaker is_visible (λ b. not (is_space b)) visible_no_space text h.visible
+
+token : (text rest : List ℕ) → IsToken text → tokens_of (text ++ 32 ∷ rest) ≡ text ∷ tokens_of rest
+token text rest h = first_part is_space text 32 rest (no_space text h) refl
+
+last_token : (text : List ℕ) → IsToken text → tokens_of text ≡ text ∷ []
+last_token text h = whole_part is_space text (no_space text h)
+
+two_tokens : (x y : List ℕ) → IsToken x → IsToken y → tokens_of (x ++ codes " " ++ y) ≡ x ∷ y ∷ []
+two_tokens x y a b = ap tokens_of (sym (two_row x y)) ∙ token x y a ∙ ap (λ (ts : List (List ℕ)). x ∷ ts) (last_token y b)
+
+three_tokens : (s w h : List ℕ) → IsToken s → IsToken w → IsToken h → tokens_of (three s w h) ≡ s ∷ w ∷ h ∷ []
+three_tokens s w h a b d =
+    ap tokens_of (sym (three_row s w h)) ∙ token s (w ++ 32 ∷ h) a
+    ∙ ap (λ (ts : List (List ℕ)). s ∷ ts) (token w h b ∙ ap (λ (ts : List (List ℕ)). w ∷ ts) (last_token h d))
+
+within : (most : ℕ) (bytes : List ℕ) → length bytes ≤ most → no_longer most bytes ≡ Some bytes
+within most bytes h = rw (le-ltb most (length bytes) h) refl
+
+manifest_back : (bytes : List ℕ) → AreBytes bytes → length bytes ≤ MOST_MANIFEST → manifest_told (word_text bytes) ≡ Some bytes
+manifest_back bytes h short = rw (word_of-word_text bytes h) (within MOST_MANIFEST bytes short)
+
+payload_back : (bytes : List ℕ) → AreBytes bytes → length bytes ≤ MOST_PAYLOAD → payload_told (hex_text bytes) ≡ Some bytes
+payload_back bytes h short = rw (hex_of-hex_text bytes h) (within MOST_PAYLOAD bytes short)
+
+address_back : (a : Address) → IsAddress a → address_told (address_text a) ≡ Some a
+address_back a h = rw (address_of-address_text a h) refl
+
+abbrev fields_of : SysMsg → List (List ℕ)
+fields_of m = signed_decimal m.serializer ∷ word_text m.manifest ∷ hex_text m.payload ∷ []
+
+message_tokens : (m : SysMsg) → IsMessage m → HasBytes m → tokens_of (message_text m) ≡ fields_of m
+message_tokens m h b = three_tokens (signed_decimal m.serializer) (word_text m.manifest) (hex_text m.payload) (signed_token m.serializer h.serializer) (word_token m.manifest b.manifest) (hex_token m.payload b.payload)
+
+message_back : (m : SysMsg) → IsMessage m → HasBytes m → message_in (fields_of m) ≡ Some m
+message_back m h b = rw (int32_of-signed m.serializer h.serializer, manifest_back m.manifest b.manifest h.manifest, payload_back m.payload b.payload h.payload) refl
+
+abbrev request_fields : Request → List (List ℕ)
+request_fields (Pair a) = codes "pair" ∷ address_text a ∷ []
+request_fields (Send a m) = codes "send" ∷ address_text a ∷ fields_of m
+
+request_tokens : (r : Request) → IsRequest r → RequestHasBytes r → tokens_of (request_text r) ≡ request_fields r
+request_tokens (Pair a) h b =
+    first_part is_space (codes "pair") 32 (address_text a) refl refl ∙ ap (λ (ts : List (List ℕ)). codes "pair" ∷ ts) (last_token (address_text a) (address_token a h))
+request_tokens (Send a m) h b =
+    first_part is_space (codes "send") 32 (address_text a ++ codes " " ++ message_text m) refl refl
+    ∙ ap (λ (ts : List (List ℕ)). codes "send" ∷ ts)
+      (ap tokens_of (sym (two_row (address_text a) (message_text m))) ∙ token (address_text a) (message_text m) (address_token a h.0)
+       ∙ ap (λ (ts : List (List ℕ)). address_text a ∷ ts) (message_tokens m h.1 b))
+
+request_back : (r : Request) → IsRequest r → RequestHasBytes r → request_in (request_fields r) ≡ Some r
+request_back (Pair a) h b = rw (address_back a h) refl
+request_back (Send a m) h b = rw (address_back a h.0, message_back m h.1 b) refl
+
+start_in_range : (n low high : ℕ) → low ≤ n → n ≤ high → is_in_range low high n ≡ true
+start_in_range n low high a b = grind (arith, nat_tests)
+
+-- the text of an event tells it
+pub event_of-event_text : (e : Event) → IsEvent e → EventHasBytes e → event_of (event_text e) ≡ Some e
+event_of-event_text (Start u) h b =
+    ap event_in (first_part is_space (codes "start") 32 (address_text u.address ++ codes " " ++ decimal u.uid) refl refl
+      ∙ ap (λ (ts : List (List ℕ)). codes "start" ∷ ts) (two_tokens (address_text u.address) (decimal u.uid) (address_token u.address h.address) (decimal_token u.uid h.uid)))
+    ∙ rw (address_back u.address h.address, number_of-decimal u.uid h.uid) refl
+event_of-event_text (At uid r) h b =
+    ap event_in (first_part is_space (codes "at") 32 (decimal uid ++ codes " " ++ request_text r) refl refl
+      ∙ ap (λ (ts : List (List ℕ)). codes "at" ∷ ts)
+        (ap tokens_of (sym (two_row (decimal uid) (request_text r))) ∙ token (decimal uid) (request_text r) (decimal_token uid h.0)
+         ∙ ap (λ (ts : List (List ℕ)). decimal uid ∷ ts) (request_tokens r h.1 b)))
+    ∙ rw (number_of-decimal uid h.0, request_back r h.1 b) refl
+event_of-event_text (Pass k) h b =
+    let small : k < 2 ^ 64 = omega (arith, h.1) in
+    ap event_in (first_part is_space (codes "pass") 32 (decimal k) refl refl
+      ∙ ap (λ (ts : List (List ℕ)). codes "pass" ∷ ts) (last_token (decimal k) (decimal_token k small)))
+    ∙ rw (number_of-decimal k small, start_in_range k 1 MOST_ROUNDS h.0 h.1) refl

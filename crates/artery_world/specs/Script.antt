@@ -52,6 +52,20 @@ IsEvent (Start unique) = IsUniqueAddress unique
 IsEvent (At uid request) = (uid < 2 ^ 64) × IsRequest request
 IsEvent (Pass rounds) = (1 ≤ rounds) × (rounds ≤ MOST_ROUNDS)
 
+-- the manifest and the payload are bytes, as those of a value that a program holds are
+pub record HasBytes (m : SysMsg) : Type 0 where
+  pub manifest : AreBytes m.manifest
+  pub payload : AreBytes m.payload
+
+abbrev pub RequestHasBytes : Request → Type 0
+RequestHasBytes (Pair address) = Unit {0}
+RequestHasBytes (Send address message) = HasBytes message
+
+abbrev pub EventHasBytes : Event → Type 0
+EventHasBytes (Start unique) = Unit {0}
+EventHasBytes (At uid request) = RequestHasBytes request
+EventHasBytes (Pass rounds) = Unit {0}
+
 -- ---- reading an event
 
 infixl 10 ◌>>=◌
