@@ -142,7 +142,7 @@ pub event_on : (front new : List ScriptLine) (n : ℕ) (line : List ℕ) (event 
 event_on front new n line event old left total e h t push so_far =
     let is : event_of line ≡ Some event = told_some n (event_of line) event t in
     let step : events_from n old ≡ before_others (numbered_line n event) (events_from (n + 1) left) =
-      ap (events_from n) e ∙ told n line left h ∙ ap (λ (o : Option Event). at_line n o (events_from (n + 1) left)) is in
+    ap (events_from n) e ∙ told n line left h ∙ ap (λ (o : Option Event). at_line n o (events_from (n + 1) left)) is in
     ap (λ (ls : List ScriptLine). behind ls (events_from (n + 1) left)) push
     ∙ moved front (numbered_line n event) (events_from (n + 1) left)
     ∙ ap (behind front) (sym step) ∙ so_far

@@ -124,7 +124,7 @@ message_spelled (s ∷ w ∷ p ∷ []) m h =
     let is : made ≡ m = some_is made m d.then_ in
     let row : s ++ 32 ∷ (w ++ 32 ∷ p) ≡ message_text made = three_row s w p ∙ ap (λ (x : List ℕ). three x w p) za.1 ∙ ap (λ (x : List ℕ). three (signed_decimal a.value) x p) zb.1 ∙ ap (three (signed_decimal a.value) (word_text b.value)) zd.1 in
     subst (λ (v : SysMsg). Spelled (s ∷ w ∷ p ∷ []) (IsMessage v) (message_text v)) is
-      (record { some = omega arith; valid = record { serializer = za.0; manifest = zb.0; payload = zd.0 }; row = row })
+    (record { some = omega arith; valid = record { serializer = za.0; manifest = zb.0; payload = zd.0 }; row = row })
 
 pair_spelled : (fields : List (List ℕ)) (r : Request) → pair_in fields ≡ Some r → Spelled (codes "pair" ∷ fields) (IsRequest r) (request_text r)
 pair_spelled [] r h = absurd cc
@@ -134,7 +134,7 @@ pair_spelled (address ∷ []) r h =
     let z = address_spelled address a.value a.first in
     let is : Pair a.value ≡ r = some_is (Pair a.value) r a.then_ in
     subst (λ (v : Request). Spelled (codes "pair" ∷ address ∷ []) (IsRequest v) (request_text v)) is
-      (record { some = omega arith; valid = z.0; row = ap (λ (xs : List ℕ). codes "pair " ++ xs) z.1 })
+    (record { some = omega arith; valid = z.0; row = ap (λ (xs : List ℕ). codes "pair " ++ xs) z.1 })
 
 send_spelled : (fields : List (List ℕ)) (r : Request) → send_in fields ≡ Some r → Spelled (codes "send" ∷ fields) (IsRequest r) (request_text r)
 send_spelled [] r h = absurd cc
@@ -145,9 +145,9 @@ send_spelled (address ∷ fields) r h =
     let zb = message_spelled fields b.value b.first in
     let is : Send a.value b.value ≡ r = some_is (Send a.value b.value) r b.then_ in
     let row : join_with_byte 32 (address ∷ fields) ≡ address_text a.value ++ codes " " ++ message_text b.value =
-      joined address fields zb.some ∙ ap (λ (xs : List ℕ). address ++ 32 ∷ xs) zb.row ∙ ap (λ (xs : List ℕ). xs ++ 32 ∷ message_text b.value) za.1 ∙ two_row (address_text a.value) (message_text b.value) in
+    joined address fields zb.some ∙ ap (λ (xs : List ℕ). address ++ 32 ∷ xs) zb.row ∙ ap (λ (xs : List ℕ). xs ++ 32 ∷ message_text b.value) za.1 ∙ two_row (address_text a.value) (message_text b.value) in
     subst (λ (v : Request). Spelled (codes "send" ∷ address ∷ fields) (IsRequest v) (request_text v)) is
-      (record { some = omega arith; valid = (za.0, zb.valid); row = ap (λ (xs : List ℕ). codes "send " ++ xs) row })
+    (record { some = omega arith; valid = (za.0, zb.valid); row = ap (λ (xs : List ℕ). codes "send " ++ xs) row })
 
 word_is : (word other : List ℕ) → bytes_eq word other ≡ true → word ≡ other
 word_is word other h = (bytes_eq-Decides word other).0 h
@@ -174,9 +174,9 @@ start_spelled (address ∷ uid ∷ []) e h =
     let made : UniqueAddress = record { address = a.value; uid = b.value } in
     let is : Start made ≡ e = some_is (Start made) e b.then_ in
     let row : address ++ 32 ∷ uid ≡ address_text a.value ++ codes " " ++ decimal b.value =
-      ap (λ (xs : List ℕ). xs ++ 32 ∷ uid) za.1 ∙ ap (λ (xs : List ℕ). address_text a.value ++ 32 ∷ xs) zb.1 ∙ two_row (address_text a.value) (decimal b.value) in
+    ap (λ (xs : List ℕ). xs ++ 32 ∷ uid) za.1 ∙ ap (λ (xs : List ℕ). address_text a.value ++ 32 ∷ xs) zb.1 ∙ two_row (address_text a.value) (decimal b.value) in
     subst (λ (v : Event). Spelled (codes "start" ∷ address ∷ uid ∷ []) (IsEvent v) (event_text v)) is
-      (record { some = omega arith; valid = record { address = za.0; uid = zb.0 }; row = ap (λ (xs : List ℕ). codes "start " ++ xs) row })
+    (record { some = omega arith; valid = record { address = za.0; uid = zb.0 }; row = ap (λ (xs : List ℕ). codes "start " ++ xs) row })
 
 at_spelled : (fields : List (List ℕ)) (e : Event) → at_in fields ≡ Some e → Spelled (codes "at" ∷ fields) (IsEvent e) (event_text e)
 at_spelled [] e h = absurd cc
@@ -187,9 +187,9 @@ at_spelled (uid ∷ fields) e h =
     let zb = request_spelled fields b.value b.first in
     let is : At a.value b.value ≡ e = some_is (At a.value b.value) e b.then_ in
     let row : join_with_byte 32 (uid ∷ fields) ≡ decimal a.value ++ codes " " ++ request_text b.value =
-      joined uid fields zb.some ∙ ap (λ (xs : List ℕ). uid ++ 32 ∷ xs) zb.row ∙ ap (λ (xs : List ℕ). xs ++ 32 ∷ request_text b.value) za.1 ∙ two_row (decimal a.value) (request_text b.value) in
+    joined uid fields zb.some ∙ ap (λ (xs : List ℕ). uid ++ 32 ∷ xs) zb.row ∙ ap (λ (xs : List ℕ). xs ++ 32 ∷ request_text b.value) za.1 ∙ two_row (decimal a.value) (request_text b.value) in
     subst (λ (v : Event). Spelled (codes "at" ∷ uid ∷ fields) (IsEvent v) (event_text v)) is
-      (record { some = omega arith; valid = (za.0, zb.valid); row = ap (λ (xs : List ℕ). codes "at " ++ xs) row })
+    (record { some = omega arith; valid = (za.0, zb.valid); row = ap (λ (xs : List ℕ). codes "at " ++ xs) row })
 
 in_range : (n low high : ℕ) → is_in_range low high n ≡ true → (low ≤ n) × (n ≤ high)
 in_range n low high h = (grind (arith, nat_tests), grind (arith, nat_tests))
@@ -203,7 +203,7 @@ pass_spelled (rounds ∷ []) e h =
     elim (if_some (is_in_range 1 MOST_ROUNDS a.value) (Some (Pass a.value)) None e a.then_) [
       | inl f ↦
           subst (λ (v : Event). Spelled (codes "pass" ∷ rounds ∷ []) (IsEvent v) (event_text v)) (some_is (Pass a.value) e f.1)
-            (record { some = omega arith; valid = in_range a.value 1 MOST_ROUNDS f.0; row = ap (λ (xs : List ℕ). codes "pass " ++ xs) z.1 })
+          (record { some = omega arith; valid = in_range a.value 1 MOST_ROUNDS f.0; row = ap (λ (xs : List ℕ). codes "pass " ++ xs) z.1 })
       | inr f ↦ absurd cc
     ]
 
@@ -279,8 +279,8 @@ request_tokens (Pair a) h b =
 request_tokens (Send a m) h b =
     first_part is_space (codes "send") 32 (address_text a ++ codes " " ++ message_text m) refl refl
     ∙ ap (λ (ts : List (List ℕ)). codes "send" ∷ ts)
-      (ap tokens_of (sym (two_row (address_text a) (message_text m))) ∙ token (address_text a) (message_text m) (address_token a h.0)
-       ∙ ap (λ (ts : List (List ℕ)). address_text a ∷ ts) (message_tokens m h.1 b))
+    (ap tokens_of (sym (two_row (address_text a) (message_text m))) ∙ token (address_text a) (message_text m) (address_token a h.0)
+    ∙ ap (λ (ts : List (List ℕ)). address_text a ∷ ts) (message_tokens m h.1 b))
 
 request_back : (r : Request) → IsRequest r → RequestHasBytes r → request_in (request_fields r) ≡ Some r
 request_back (Pair a) h b = rw (address_back a h) refl
@@ -293,16 +293,16 @@ start_in_range n low high a b = grind (arith, nat_tests)
 pub event_of-event_text : (e : Event) → IsEvent e → EventHasBytes e → event_of (event_text e) ≡ Some e
 event_of-event_text (Start u) h b =
     ap event_in (first_part is_space (codes "start") 32 (address_text u.address ++ codes " " ++ decimal u.uid) refl refl
-      ∙ ap (λ (ts : List (List ℕ)). codes "start" ∷ ts) (two_tokens (address_text u.address) (decimal u.uid) (address_token u.address h.address) (decimal_token u.uid h.uid)))
+    ∙ ap (λ (ts : List (List ℕ)). codes "start" ∷ ts) (two_tokens (address_text u.address) (decimal u.uid) (address_token u.address h.address) (decimal_token u.uid h.uid)))
     ∙ rw (address_back u.address h.address, number_of-decimal u.uid h.uid) refl
 event_of-event_text (At uid r) h b =
     ap event_in (first_part is_space (codes "at") 32 (decimal uid ++ codes " " ++ request_text r) refl refl
-      ∙ ap (λ (ts : List (List ℕ)). codes "at" ∷ ts)
-        (ap tokens_of (sym (two_row (decimal uid) (request_text r))) ∙ token (decimal uid) (request_text r) (decimal_token uid h.0)
-         ∙ ap (λ (ts : List (List ℕ)). decimal uid ∷ ts) (request_tokens r h.1 b)))
+    ∙ ap (λ (ts : List (List ℕ)). codes "at" ∷ ts)
+    (ap tokens_of (sym (two_row (decimal uid) (request_text r))) ∙ token (decimal uid) (request_text r) (decimal_token uid h.0)
+    ∙ ap (λ (ts : List (List ℕ)). decimal uid ∷ ts) (request_tokens r h.1 b)))
     ∙ rw (number_of-decimal uid h.0, request_back r h.1 b) refl
 event_of-event_text (Pass k) h b =
     let small : k < 2 ^ 64 = omega (arith, h.1) in
     ap event_in (first_part is_space (codes "pass") 32 (decimal k) refl refl
-      ∙ ap (λ (ts : List (List ℕ)). codes "pass" ∷ ts) (last_token (decimal k) (decimal_token k small)))
+    ∙ ap (λ (ts : List (List ℕ)). codes "pass" ∷ ts) (last_token (decimal k) (decimal_token k small)))
     ∙ rw (number_of-decimal k small, start_in_range k 1 MOST_ROUNDS h.0 h.1) refl

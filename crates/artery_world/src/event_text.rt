@@ -4,8 +4,8 @@ ghost use Rattle.artery_world.specs.Script.{Tells, line_fault, is_space, tokens_
 
 use crate::event::Event;
 use artery_base::{
-    Address, AddressFault, Bytes, Request, SysMsg, UniqueAddress, WordFault, read_address, read_hex,
-    read_int32, read_number, read_word,
+    Address, AddressFault, Bytes, Request, SysMsg, UniqueAddress, WordFault, read_address,
+    read_hex, read_int32, read_number, read_word,
 };
 use std::alloc::Global;
 use std::marker::Model;
@@ -165,7 +165,12 @@ fn read_serializer(token: &[u8]) -> Result<i32, LineFault>
     read_int32(token).ok_or(LineFault::BadLine)
 }
 
-fn message_from(alloc: Global, serializer: &[u8], manifest: &[u8], payload: &[u8]) -> Result<SysMsg, LineFault>
+fn message_from(
+    alloc: Global,
+    serializer: &[u8],
+    manifest: &[u8],
+    payload: &[u8],
+) -> Result<SysMsg, LineFault>
     ensures { Tells result (message_of serializer.now manifest.now payload.now) }
 {
     let serializer = read_serializer(serializer)?;

@@ -46,7 +46,12 @@ fn put_started(of: &UniqueAddress, out: &mut Bytes) -> Result<(), NoMemory>
 
 // Who did something to whom.
 #[tactic(auto, using(artery_base::proofs::Appending::keeps_front))]
-fn put_both(of: &UniqueAddress, verb: &[u8], other: &UniqueAddress, out: &mut Bytes) -> Result<(), NoMemory>
+fn put_both(
+    of: &UniqueAddress,
+    verb: &[u8],
+    other: &UniqueAddress,
+    out: &mut Bytes,
+) -> Result<(), NoMemory>
     ensures ok { OnOk result (out.new ≡ out.old ++ unique_text of.now ++ verb.now ++ unique_text other.now) }
     ensures kept { take (length out.old) out.new ≡ out.old }
 {

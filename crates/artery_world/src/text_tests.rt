@@ -31,8 +31,16 @@ fn journal(alloc: Global) -> Option<Lines> {
     let a = read_unique(alloc, b"akka://A@h1:25520#1").ok()?;
     let b = read_unique(alloc, b"akka://B@h2:25520#2").ok()?;
     let mut lines = Lines::new(alloc);
-    lines.push(Line::Started { of: a.clone().ok()? }).ok()?;
-    lines.push(Line::Started { of: b.clone().ok()? }).ok()?;
+    lines
+        .push(Line::Started {
+            of: a.clone().ok()?,
+        })
+        .ok()?;
+    lines
+        .push(Line::Started {
+            of: b.clone().ok()?,
+        })
+        .ok()?;
     lines
         .push(Line::Learnt {
             of: a.clone().ok()?,
@@ -68,9 +76,7 @@ fn journal(alloc: Global) -> Option<Lines> {
 fn lines_are_printed(rt: HostRuntime) -> Result<(), Fail> {
     let lines = journal(rt.alloc()).ok_or("memory is left")?;
     let mut out = Bytes::new(rt.alloc());
-    print_lines(&lines, &mut out)
-        .ok()
-        .ok_or("memory is left")?;
+    print_lines(&lines, &mut out).ok().ok_or("memory is left")?;
     assert_eq!(rt; out.as_slice(), JOURNAL);
     let mut out = Bytes::new(rt.alloc());
     print_line(&lines.as_slice()[0], &mut out)
@@ -94,19 +100,55 @@ fn the_first_script_is_read(rt: HostRuntime) -> Result<(), Fail> {
         .ok()
         .ok_or("the text is a unique address")?;
     let lines = script.as_slice();
-    assert_eq!(rt; lines[0], ScriptLine { line: 1, event: Event::Start { unique } });
+    assert_eq!(rt;
+        lines[0],
+        ScriptLine {
+            line: 1,
+            event: Event::Start { unique }
+        }
+    );
     let address = b.clone().ok().ok_or("memory is left")?;
-    assert_eq!(rt; lines[2], ScriptLine { line: 3, event: Event::At { uid: 1, request: Request::Pair { address } } });
-    assert_eq!(rt; lines[3], ScriptLine { line: 4, event: Event::Pass { rounds: 9 } });
+    assert_eq!(rt;
+        lines[2],
+        ScriptLine {
+            line: 3,
+            event: Event::At {
+                uid: 1,
+                request: Request::Pair { address }
+            }
+        }
+    );
+    assert_eq!(rt;
+        lines[3],
+        ScriptLine {
+            line: 4,
+            event: Event::Pass { rounds: 9 }
+        }
+    );
     let message = message(rt.alloc()).ok_or("memory is left")?;
-    assert_eq!(rt; lines[4], ScriptLine { line: 5, event: Event::At { uid: 1, request: Request::Send { address: b, message } } });
+    assert_eq!(rt;
+        lines[4],
+        ScriptLine {
+            line: 5,
+            event: Event::At {
+                uid: 1,
+                request: Request::Send {
+                    address: b,
+                    message
+                }
+            }
+        }
+    );
     Ok(())
 }
 
 #[test]
 fn bad_lines_are_named(rt: HostRuntime) -> Result<(), Fail> {
     let cases: [(&[u8], u64); 23] = [
-        (b"start akka://A@h1:25520 1\nstart akka://B@h2:25520 2\njump\n", 3),
+        (
+            b"start akka://A@h1:25520 1\nstart akka://B@h2:25520 2\njump\n",
+            3,
+        ),
         (b"jump", 1),
         (b"stop 1", 1),
         (b"pass  1", 1),
@@ -131,7 +173,10 @@ fn bad_lines_are_named(rt: HostRuntime) -> Result<(), Fail> {
         (b"\n\njump\npass 0\n", 3),
     ];
     for (text, line) in cases {
-        assert_eq!(rt; read_script(rt.alloc(), text).err(), Some(ScriptFault::BadLine { line }));
+        assert_eq!(rt;
+            read_script(rt.alloc(), text).err(),
+            Some(ScriptFault::BadLine { line })
+        );
     }
     Ok(())
 }

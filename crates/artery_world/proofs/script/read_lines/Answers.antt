@@ -9,6 +9,6 @@ loop-line-preserved c =
     let taken : c.loop-line.left ≡ c.in-Some.line.now ∷ c.next.new.self = search rules in
     record {
       so_far = event_on c.loop-line.script c.push.new.self (c.loop-line.n + 1) c.in-Some.line.now c.in_ok-event.event c.loop-line.left c.next.new.self (events_from 1 (lines_of c.args.text.now))
-        taken event (search rules) c.in_ok-push.ensures.ok c.loop-line.invariant.so_far;
+          taken event (search rules) c.in_ok-push.ensures.ok c.loop-line.invariant.so_far;
       few = omega (arith, c.loop-line.invariant.few, ap length taken);
     }
