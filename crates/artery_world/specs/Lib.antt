@@ -3,3 +3,5 @@ pub mod World
 pub mod Step
 pub mod Laws
 pub mod Replay
+pub mod Texts
+pub mod Script

@@ -3,6 +3,7 @@
 
 mod copies;
 mod event;
+mod event_text;
 mod fault;
 mod laws;
 mod line;
@@ -11,12 +12,20 @@ mod link;
 mod network;
 mod node;
 mod peer;
+mod printing;
 mod script;
+mod spelling;
 mod world;
 
 pub use event::{Event, Parcel, Pending};
+pub use event_text::{LineFault, read_event};
 pub use fault::{Why, WorldFault, WorldLimit};
 pub use laws::prefix_law;
 pub use line::Line;
 pub use lines::Lines;
-pub use script::ScriptLine;
+pub use printing::{print_line, print_lines};
+pub use script::{Script, ScriptFault, ScriptLine, read_script};
+pub use spelling::events_are_spelled;
+
+#[cfg(test)]
+mod text_tests;

@@ -1,4 +1,18 @@
+ghost use Rattle.std.specs.Prelude.{◌≡◌, ℕ, ◌+◌, ◌<◌, ◌≤◌, ◌==◌, [], ◌∷◌, ◌++◌, List, length, position, IfSome, IfNone, OnOk, OnErr, not, nat_lt};
+ghost use Rattle.artery_base.specs.Reading.{Gives};
+ghost use Rattle.artery_world.specs.declared.script.ScriptLine.{ScriptLine};
+ghost use Rattle.artery_world.specs.declared.script.ScriptFault.TheVariants as script_faults;
+ghost use Rattle.artery_world.specs.declared.script.TheConstants.{MOST_LINES};
+ghost use Rattle.artery_world.specs.Script.{is_feed, lines_of, is_passed_over, event_of, told_at, events_from, script_of, script_memory};
+
 use crate::event::Event;
+use crate::event_text::{LineFault, after, before, read_event};
+use artery_base::NoMemory;
+use std::alloc::Global;
+use std::marker::Model;
+
+/// The most lines of a script.
+pub const MOST_LINES: usize = 1_000_000;
 
 /// A line of a script: its number, counted from 1, and what it tells.
 #[derive(Clone, Debug, PartialEq, Eq, Drop)]
@@ -7,4 +21,193 @@ pub struct ScriptLine {
     pub line: u64,
     /// What happens.
     pub event: Event,
+}
+
+/// Why a text is no script.
+#[derive(Clone, Copy, Debug, PartialEq, Eq)]
+pub enum ScriptFault {
+    /// The first line that is neither empty nor a remark and tells no event, counted from 1.
+    BadLine { line: u64 },
+    /// There are more than 1,000,000 lines.
+    TooManyLines,
+    /// Memory ran out.
+    NoMemory,
+}
+
+impl From<NoMemory> for ScriptFault {
+    ghost from_gives = { λ _ e. e ≡ script_faults.NoMemory };
+
+    fn from(_error: NoMemory) -> ScriptFault {
+        ScriptFault::NoMemory
+    }
+}
+
+/// The events of a script with the numbers of their lines, in order.
+#[derive(Clone, Debug, Drop)]
+pub struct Script {
+    items: Vec<ScriptLine>,
+}
+
+impl Model for Script {
+    ghost use Rattle.std.specs.Prelude.{List};
+    ghost use Rattle.artery_world.specs.declared.script.ScriptLine.{ScriptLine};
+
+    ghost Value = { List ScriptLine };
+
+    ghost view = { λ s. s.items.items };
+}
+
+impl Script {
+    /// No events. Takes no memory.
+    pub fn new(alloc: Global) -> Script
+        ensures { result ≡ [] }
+    {
+        Script {
+            items: Vec::new(alloc),
+        }
+    }
+
+    /// How many events there are.
+    pub fn len(&self) -> usize
+        ensures { result ≡ length self.now }
+    {
+        self.items.len()
+    }
+
+    /// Whether there are none.
+    pub fn is_empty(&self) -> bool
+        ensures { result ≡ (length self.now == 0) }
+    {
+        self.items.is_empty()
+    }
+
+    /// The events with the numbers of their lines, borrowed.
+    pub fn as_slice(&self) -> &[ScriptLine]
+        ensures { result.now ≡ self.now }
+    {
+        self.items.as_slice()
+    }
+
+    /// Adds an event at the end. Without memory nothing changes.
+    pub fn push(&mut self, line: ScriptLine) -> Result<(), NoMemory>
+        ensures ok { OnOk result (self.new ≡ self.old ++ line ∷ []) }
+        ensures err { OnErr result (self.new ≡ self.old) }
+    {
+        self.items.push(line)?;
+        Ok(())
+    }
+}
+
+/// The lines of a text that are left to read.
+#[derive(Drop)]
+struct LinesLeft<'a> {
+    text: &'a [u8],
+}
+
+impl<'a> Model for LinesLeft<'a> {
+    ghost use Rattle.std.specs.Prelude.{ℕ, List};
+    ghost use Rattle.artery_world.specs.Script.{lines_of};
+
+    ghost Value = { List (List ℕ) };
+
+    ghost view = { λ l. lines_of l.text.now };
+}
+
+impl<'a> LinesLeft<'a> {
+    fn new(text: &'a [u8]) -> LinesLeft<'a>
+        ensures { result ≡ lines_of text.now }
+    {
+        LinesLeft { text }
+    }
+
+    /// Takes the next line; `None` where there is none.
+    #[tactic(auto, using(crate::proofs::Cuts::line_at, crate::proofs::Cuts::line_last, crate::proofs::Cuts::no_line))]
+    fn next(&mut self) -> Option<&'a [u8]>
+        ensures some { IfSome result (λ line. self.old ≡ line.now ∷ self.new) }
+        ensures none { IfNone result (self.old ≡ []) }
+    {
+        let text = self.text;
+        if text.is_empty() {
+            return None;
+        }
+        let Some(at) = find_feed(text) else {
+            self.text = after(text, text.len());
+            return Some(text);
+        };
+        self.text = after(text, at + 1);
+        Some(before(text, at))
+    }
+}
+
+fn find_feed(text: &[u8]) -> Option<usize>
+    ensures found { result ≡ position is_feed text.now }
+    ensures within { IfSome result (λ at. at < length text.now) }
+{
+    text.iter().position(|byte| *byte == b'\n')
+}
+
+// Whether a text has no more lines than a script may have.
+fn has_few_lines(text: &[u8]) -> bool
+    ensures { result ≡ not (nat_lt MOST_LINES (length (lines_of text.now))) }
+{
+    let mut left = LinesLeft::new(text);
+    let mut count = 0;
+    while let Some(_line) = left.next() {
+        if count == MOST_LINES {
+            return false;
+        }
+        count += 1;
+    }
+    true
+}
+
+fn is_passed_over(line: &[u8]) -> bool
+    ensures { result ≡ is_passed_over line.now }
+{
+    if line.is_empty() {
+        return true;
+    }
+    line[0] == b'#'
+}
+
+fn event_at(alloc: Global, n: u64, line: &[u8]) -> Result<Event, ScriptFault>
+    ensures { Gives script_memory result (told_at n (event_of line.now)) }
+{
+    match read_event(alloc, line) {
+        Ok(event) => Ok(event),
+        Err(LineFault::BadLine) => Err(ScriptFault::BadLine { line: n }),
+        Err(LineFault::NoMemory) => Err(ScriptFault::NoMemory),
+    }
+}
+
+#[tactic(auto, using(crate::proofs::Cuts::passed_on, crate::proofs::Cuts::event_on, crate::proofs::Cuts::event_fails, crate::proofs::Cuts::events_end))]
+fn read_lines(alloc: Global, text: &[u8]) -> Result<Script, ScriptFault>
+    requires { length (lines_of text.now) ≤ MOST_LINES }
+    ensures { Gives script_memory result (events_from 1 (lines_of text.now)) }
+{
+    let mut left = LinesLeft::new(text);
+    let mut script = Script::new(alloc);
+    let mut n = 0;
+    while let Some(line) = left.next() {
+        n += 1;
+        if is_passed_over(line) {
+            continue;
+        }
+        let event = event_at(alloc, n, line)?;
+        script.push(ScriptLine { line: n, event })?;
+    }
+    Ok(script)
+}
+
+/// The script that a text tells, one event a line. Lines end with a line feed, which the last may
+/// lack. Empty lines and lines that begin with `#` are passed over and still counted.
+/// `TooManyLines` where there are more than 1,000,000 lines; else `BadLine` names the first line
+/// that tells no event.
+pub fn read_script(alloc: Global, text: &[u8]) -> Result<Script, ScriptFault>
+    ensures exact { Gives script_memory result (script_of text.now) }
+{
+    if !has_few_lines(text) {
+        return Err(ScriptFault::TooManyLines);
+    }
+    read_lines(alloc, text)
 }

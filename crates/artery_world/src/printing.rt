@@ -1,0 +1,140 @@
+ghost use Rattle.std.specs.Prelude.{◌≡◌, [], ◌∷◌, ◌++◌, length, take, codes, decimal, flat_map, OnOk, OnErr};
+ghost use Rattle.artery_base.specs.Spelling.{unique_text};
+ghost use Rattle.artery_world.specs.Texts.{message_text, line_text, ended_line, journal_text};
+
+use crate::line::Line;
+use crate::lines::Lines;
+use artery_base::{
+    Bytes, NoMemory, SysMsg, UniqueAddress, print_hex, print_int32, print_number, print_unique,
+    print_word,
+};
+
+#[tactic(auto, using(artery_base::proofs::Appending::keeps_front))]
+fn put_message(message: &SysMsg, out: &mut Bytes) -> Result<(), NoMemory>
+    ensures ok { OnOk result (out.new ≡ out.old ++ message_text message.now) }
+    ensures kept { take (length out.old) out.new ≡ out.old }
+{
+    print_int32(message.serializer, out)?;
+    out.push(b' ')?;
+    print_word(message.manifest.as_slice(), out)?;
+    out.push(b' ')?;
+    print_hex(message.payload.as_slice(), out)
+}
+
+/// Appends the message: its serializer, its manifest as a word and its payload in hexadecimal, with
+/// one space between them. Without memory `out` stays as it was.
+pub(crate) fn print_message(message: &SysMsg, out: &mut Bytes) -> Result<(), NoMemory>
+    ensures ok { OnOk result (out.new ≡ out.old ++ message_text message.now) }
+    ensures err { OnErr result (out.new ≡ out.old) }
+{
+    let before = out.len();
+    if let Err(fault) = put_message(message, out) {
+        out.truncate(before);
+        return Err(fault);
+    }
+    Ok(())
+}
+
+#[tactic(auto, using(artery_base::proofs::Appending::keeps_front))]
+fn put_started(of: &UniqueAddress, out: &mut Bytes) -> Result<(), NoMemory>
+    ensures ok { OnOk result (out.new ≡ out.old ++ unique_text of.now ++ codes " started") }
+    ensures kept { take (length out.old) out.new ≡ out.old }
+{
+    print_unique(of, out)?;
+    out.extend_from_slice(b" started")
+}
+
+// Who did something to whom.
+#[tactic(auto, using(artery_base::proofs::Appending::keeps_front))]
+fn put_both(
+    of: &UniqueAddress,
+    verb: &[u8],
+    other: &UniqueAddress,
+    out: &mut Bytes,
+) -> Result<(), NoMemory>
+    ensures ok { OnOk result (out.new ≡ out.old ++ unique_text of.now ++ verb.now ++ unique_text other.now) }
+    ensures kept { take (length out.old) out.new ≡ out.old }
+{
+    print_unique(of, out)?;
+    out.extend_from_slice(verb)?;
+    print_unique(other, out)
+}
+
+// A message with its number, behind a space.
+#[tactic(auto, using(artery_base::proofs::Appending::keeps_front))]
+fn put_numbered(n: u64, message: &SysMsg, out: &mut Bytes) -> Result<(), NoMemory>
+    ensures ok { OnOk result (out.new ≡ out.old ++ codes " " ++ decimal n ++ codes " " ++ message_text message.now) }
+    ensures kept { take (length out.old) out.new ≡ out.old }
+{
+    out.push(b' ')?;
+    print_number(n, out)?;
+    out.push(b' ')?;
+    print_message(message, out)
+}
+
+#[tactic(auto, using(artery_base::proofs::Appending::keeps_front, artery_base::proofs::Appending::keeps_on))]
+fn put_line(line: &Line, out: &mut Bytes) -> Result<(), NoMemory>
+    ensures ok { OnOk result (out.new ≡ out.old ++ line_text line.now) }
+    ensures kept { take (length out.old) out.new ≡ out.old }
+{
+    match line {
+        Line::Started { of } => put_started(of, out),
+        Line::Learnt { of, other } => put_both(of, b" learnt ", other, out),
+        Line::Sent {
+            of,
+            other,
+            n,
+            message,
+        } => {
+            put_both(of, b" sent ", other, out)?;
+            put_numbered(*n, message, out)
+        }
+        Line::Took {
+            of,
+            other,
+            n,
+            message,
+        } => {
+            put_both(of, b" took ", other, out)?;
+            put_numbered(*n, message, out)
+        }
+    }
+}
+
+/// Appends the line without its line feed. Without memory `out` stays as it was.
+pub fn print_line(line: &Line, out: &mut Bytes) -> Result<(), NoMemory>
+    ensures ok { OnOk result (out.new ≡ out.old ++ line_text line.now) }
+    ensures err { OnErr result (out.new ≡ out.old) }
+{
+    let before = out.len();
+    if let Err(fault) = put_line(line, out) {
+        out.truncate(before);
+        return Err(fault);
+    }
+    Ok(())
+}
+
+#[tactic(auto, using(artery_base::proofs::Appending::keeps_front))]
+fn put_lines(lines: &[Line], out: &mut Bytes) -> Result<(), NoMemory>
+    ensures ok { OnOk result (out.new ≡ out.old ++ journal_text lines.now) }
+    ensures kept { take (length out.old) out.new ≡ out.old }
+{
+    for line in lines {
+        print_line(line, out)?;
+        out.push(b'\n')?;
+    }
+    Ok(())
+}
+
+/// Appends the lines, each with a line feed at its end. Without memory `out` stays as it was.
+pub fn print_lines(lines: &Lines, out: &mut Bytes) -> Result<(), NoMemory>
+    ensures ok { OnOk result (out.new ≡ out.old ++ journal_text lines.now) }
+    ensures err { OnErr result (out.new ≡ out.old) }
+{
+    let before = out.len();
+    if let Err(fault) = put_lines(lines.as_slice(), out) {
+        out.truncate(before);
+        return Err(fault);
+    }
+    Ok(())
+}
