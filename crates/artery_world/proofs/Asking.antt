@@ -1,6 +1,9 @@
 -- Requests, by the place of the incarnation that is asked.
-use Rattle.std.proofs.Common.{◌≡◌, ℕ, zero, suc, ◌+◌, Bool, true, false, cond, List, [], ◌∷◌, ◌++◌, length, get_or, set, refl, sym, ◌∙◌, ap, subst, arith, rules}
-use Rattle.std.specs.Prelude.{Option, None, Some, position, find, Result, Ok, Err, is_some}
+use Rattle.std.proofs.Common.{◌≡◌, ℕ, zero, suc, ◌+◌, ◌<◌, ◌≤◌, Bool, true, false, cond, List, [], ◌∷◌, ◌++◌, length, get_or, set, refl, sym, ◌∙◌, ap, subst, arith, rules}
+use Rattle.std.specs.Prelude.{Option, None, Some, position, find, Result, Ok, Err, is_some, ◌==◌, nat_lt}
+use Rattle.std.specs.List.{list_any}
+use Rattle.artery_world.specs.declared.world.TheConstants.{MOST_NODES}
+use Rattle.artery_world.specs.declared.fault.Why.TheVariants.{UsedUid, AddressLive}
 use Rattle.std.specs.Option.{option_map}
 use Rattle.std.specs.Cmp.Rules.{comparing}
 use Rattle.std.proofs.lemmas.Bool.Decides.{nat_tests}
@@ -16,8 +19,8 @@ use Rattle.artery_world.specs.declared.fault.WorldFault.TheVariants.{NotAllowed,
 use Rattle.artery_world.specs.declared.fault.WorldLimit.TheVariants as limits
 use Rattle.artery_world.specs.declared.line.Line.{Line}
 use Rattle.artery_world.specs.declared.line.Line.TheVariants.{Sent}
-use Rattle.artery_world.specs.World.{PeerState, NodeState, Net, World, seen, has_uid, is_at, node_of, peer_of, same_address}
-use Rattle.artery_world.specs.Step.{on_net, in_node, in_peer, with_outbound, pumps, knows, with_peer, asks, asks_at, unique_at, told_accepted, current_at, sends_to, sends_over, sends}
+use Rattle.artery_world.specs.World.{PeerState, NodeState, Net, World, seen, has_uid, lives_at, is_at, node_of, peer_of, same_address}
+use Rattle.artery_world.specs.Step.{on_net, in_node, in_peer, with_outbound, pumps, knows, with_peer, asks, asks_at, unique_at, told_accepted, current_at, sends_to, sends_over, sends, starts, started, start_fault, starts_unless}
 use Rattle.artery_world.proofs.Lists.{find_passes, by_option}
 use Rattle.artery_world.proofs.Places.{set_is_change, place_is_found, no_place, change_nothing}
 use Rattle.artery_world.proofs.Taking.{same_live}
@@ -82,3 +85,33 @@ sends_accepted me address m w p n h a =
     by : (c : Option ℕ) → sends_to me (record p { current = c }) m (Accepted n) w ≡ Ok (on_net (pumps me.uid p.address) (told_accepted me p.address c n m (on_net (in_peer me.uid p.address (with_outbound (kept_accepted m))) w)))
     by None = refl
     by (Some uid) = refl
+
+answer_of : (o : Option PeerState) (m : SysMsg) (p : PeerState) (a : Accept) → o ≡ Some p → Some a ≡ option_map (λ q. acceptance m q.outbound) o → acceptance m p.outbound ≡ a
+answer_of o m p a h e = (let one : Some a ≡ Some (acceptance m p.outbound) = e ∙ ap (option_map (λ (q : PeerState). acceptance m q.outbound)) h in let two : a ≡ acceptance m p.outbound = cc in sym two)
+
+-- the message waits
+pub send_waits : (me : UniqueAddress) (address : Address) (m : SysMsg) (net after : Net) (lines : List Line) (p : PeerState) (place : ℕ) → Some p ≡ peer_of me.uid address net
+    → Some (Waiting place) ≡ option_map (λ q. acceptance m q.outbound) (peer_of me.uid address net) → after ≡ in_peer me.uid address (with_outbound (kept_accepted m)) net
+    → sends me address m (seen net lines) ≡ Ok (seen after lines)
+send_waits me address m net after lines p place h a e =
+    sends_waits me address m (seen net lines) p place (sym h) (answer_of (peer_of me.uid address net) m p (Waiting place) (sym h) a)
+    ∙ ap (λ (v : Net). Ok (seen v lines)) (sym e)
+
+-- the message is accepted, told and pumped
+pub send_accepted : (me : UniqueAddress) (address : Address) (m : SysMsg) (net after end : Net) (lines told : List Line) (p : PeerState) (n : ℕ) (current : Option ℕ) → Some p ≡ peer_of me.uid address net
+    → Some (Accepted n) ≡ option_map (λ q. acceptance m q.outbound) (peer_of me.uid address net) → after ≡ in_peer me.uid address (with_outbound (kept_accepted m)) net → current ≡ p.current
+    → seen end told ≡ on_net (pumps me.uid address) (told_accepted me address current n m (seen after lines))
+    → sends me address m (seen net lines) ≡ Ok (seen end told)
+send_accepted me address m net after end lines told p n current h a e c t =
+    sends_accepted me address m (seen net lines) p n (sym h) (answer_of (peer_of me.uid address net) m p (Accepted n) (sym h) a)
+    ∙ ap (λ (v : Net). Ok (on_net (pumps me.uid address) (told_accepted me address p.current n m (seen v lines)))) (sym e)
+    ∙ ap (λ o. Ok (on_net (pumps me.uid address) (told_accepted me address o n m (seen after lines)))) (sym c)
+    ∙ ap Ok (sym t)
+
+-- ---- starting
+
+pub starts_not : (u : UniqueAddress) (w : World) (f : WorldFault) → start_fault u w.net ≡ Some f → starts u w ≡ Err f
+starts_not u w f h = ap (λ o. starts_unless o u w) h
+
+pub starts_so : (u : UniqueAddress) (w v : World) → start_fault u w.net ≡ None → v ≡ started u w → starts u w ≡ Ok v
+starts_so u w v h e = ap (λ o. starts_unless o u w) h ∙ ap Ok (sym e)

@@ -28,7 +28,7 @@ use Rattle.artery_world.specs.declared.world.TheConstants.{MOST_NODES}
 use Rattle.artery_world.specs.Laws.{sent_of, took_of, sent_by, taken_by, IsPrefix, IsLawful}
 use Rattle.artery_world.specs.Lookup.{change_first}
 use Rattle.artery_world.specs.World.{PeerState, NodeState, LinkState, Net, World, nothing, new_node, has_uid, lives_at, is_at, node_of, peer_of, same_address}
-use Rattle.artery_world.specs.Step.{in_node, in_peer, with_outbound, on_net, tells, pumps, knows, with_peer, asks, unique_at, sends_to, sends_over, sends, starts, named, requested, asked, step}
+use Rattle.artery_world.specs.Step.{in_node, in_peer, with_outbound, on_net, tells, pumps, knows, with_peer, asks, unique_at, sends_to, sends_over, sends, starts, starts_unless, named, requested, asked, step}
 use Rattle.artery_world.specs.Replay.{Run, goes_on, run_from, run}
 use Rattle.artery_world.proofs.Lists.{by_test, by_option, on_cond, Each, each_weaker, each_append, find_kept, find_new, find_passes}
 use Rattle.artery_world.proofs.Journal.{Proper, IsQuiet, proper_quiet, same_is, same_self, other_not, sent_append, taken_append}
@@ -290,7 +290,8 @@ sends_keeps w x address m books at =
 starts_keeps : (w : World) (u : UniqueAddress) → Books w → KeepsBooks (starts u w)
 starts_keeps w u books = by (list_any (λ uid. uid == u.uid) w.net.started) (list_any (lives_at u.address) w.net.live) (nat_lt (length w.net.live) MOST_NODES) refl
   where
-    by : (a b c : Bool) → list_any (λ uid. uid == u.uid) w.net.started ≡ a → KeepsBooks (cond a (Err (NotAllowed UsedUid)) (cond b (Err (NotAllowed AddressLive)) (cond c (Ok (tells (Started u ∷ []) (on_net (λ net. record net { started = net.started ++ u.uid ∷ []; live = net.live ++ new_node u ∷ [] }) w))) (Err (Limit limits.Nodes)))))
+    by : (a b c : Bool) → list_any (λ uid. uid == u.uid) w.net.started ≡ a
+        → KeepsBooks (starts_unless (cond a (Some (NotAllowed UsedUid)) (cond b (Some (NotAllowed AddressLive)) (cond c None (Some (Limit limits.Nodes))))) u w)
     by true b c e = tt
     by false true c e = tt
     by false false true e = started_books w u books e

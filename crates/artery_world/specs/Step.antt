@@ -291,13 +291,20 @@ passes_times (suc k) w = passes (passes_times k w)
 abbrev pub started : UniqueAddress → World → World
 started unique w = tells (Started unique ∷ []) (on_net (λ net. record net { started = net.started ++ unique.uid ∷ []; live = net.live ++ new_node unique ∷ [] }) w)
 
+-- why an incarnation does not start: a used UID, a live address, or 64 that live, tried in this order
+abbrev pub start_fault : UniqueAddress → Net → Option WorldFault
+start_fault unique net =
+    if list_any (λ uid. uid == unique.uid) net.started then Some (NotAllowed UsedUid)
+    else if list_any (lives_at unique.address) net.live then Some (NotAllowed AddressLive)
+    else if nat_lt (length net.live) MOST_NODES then None
+    else Some (Limit limits.Nodes)
+
+abbrev pub starts_unless : Option WorldFault → UniqueAddress → World → Result World WorldFault
+starts_unless None unique w = Ok (started unique w)
+starts_unless (Some fault) unique w = Err fault
+
 abbrev pub starts : UniqueAddress → World → Result World WorldFault
-starts unique w =
-    if list_any (λ uid. uid == unique.uid) w.net.started then Err (NotAllowed UsedUid)
-    else if list_any (lives_at unique.address) w.net.live then Err (NotAllowed AddressLive)
-    else if nat_lt (length w.net.live) MOST_NODES
-    then Ok (started unique w)
-    else Err (Limit limits.Nodes)
+starts unique w = starts_unless (start_fault unique w.net) unique w
 
 abbrev pub named : Request → Address
 named (Pair address) = address

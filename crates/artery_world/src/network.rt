@@ -1,9 +1,10 @@
-ghost use Rattle.std.specs.Prelude.{if◌then◌else◌, ◌≡◌, ℕ, ◌<◌, List, [], ◌∷◌, ◌++◌, length, Option, Some, None, find, position, is_some, IfOk, OnOk, OnErr, IfSome};
+ghost use Rattle.std.specs.Prelude.{◌==◌, if◌then◌else◌, ◌≡◌, ℕ, ◌<◌, List, [], ◌∷◌, ◌++◌, length, Option, Some, None, find, position, is_some, IfOk, OnOk, OnErr, IfSome};
 ghost use Rattle.std.specs.Option.{option_copied, option_map};
+ghost use Rattle.std.specs.List.{list_any};
 ghost use Rattle.artery_delivery.specs.Outbound.{acceptance, kept_accepted, kept_acknowledged};
 ghost use Rattle.artery_world.specs.Lookup.{Grows};
 ghost use Rattle.artery_world.specs.World.{Net, World, nothing, seen, has_uid, lives_at, node_of, peer_of};
-ghost use Rattle.artery_world.specs.Step.{in_node, in_peer, with_outbound, joins, has_link, puts, pumps, pumps_onto, current_at, opens, with_peer, learnt_peer, learns, links_up, meets, settles, settles_all, pairs_up, arrives_at, takes_next, counted, arrives, arrive_all, delivers, delivers_each, passes, passes_times, asks_at, unique_at, told_accepted, on_net, sends, starts, started, named, asked, Happens};
+ghost use Rattle.artery_world.specs.Step.{in_node, in_peer, with_outbound, joins, has_link, puts, pumps, pumps_onto, current_at, opens, with_peer, learnt_peer, learns, links_up, meets, settles, settles_all, pairs_up, arrives_at, takes_next, counted, arrives, arrive_all, delivers, delivers_each, passes, passes_times, asks_at, unique_at, told_accepted, on_net, sends, starts, started, start_fault, named, asked, Happens};
 ghost use Rattle.artery_world.specs.declared.line.Line.TheVariants as lines;
 ghost use Rattle.artery_world.specs.declared.event.Parcel.TheVariants as parcels;
 
@@ -483,7 +484,7 @@ impl Network {
     }
 
     /// Sends a message to the peer at an address.
-    #[tactic(auto, using(crate::proofs::Asking::sends_nobody, crate::proofs::Asking::sends_waits, crate::proofs::Asking::sends_too_many, crate::proofs::Asking::sends_accepted, crate::proofs::Telling::grows_self))]
+    #[tactic(auto, using(crate::proofs::Asking::sends_nobody, crate::proofs::Asking::send_waits, crate::proofs::Asking::sends_too_many, crate::proofs::Asking::send_accepted, crate::proofs::Telling::grows_self))]
     fn send(
         &mut self,
         alloc: Global,
@@ -513,8 +514,42 @@ impl Network {
         }
     }
 
+    /// Why an incarnation does not start, if so.
+    fn start_fault(&self, unique: &UniqueAddress) -> Option<WorldFault>
+        ensures value { result ≡ start_fault unique.now self.now }
+    {
+        if self.was_started(unique.uid) {
+            return Some(WorldFault::NotAllowed { why: Why::UsedUid });
+        }
+        if self.has_living_at(&unique.address) {
+            return Some(WorldFault::NotAllowed {
+                why: Why::AddressLive,
+            });
+        }
+        if self.live.len() < MOST_NODES {
+            return None;
+        }
+        Some(WorldFault::Limit {
+            which: WorldLimit::Nodes,
+        })
+    }
+
+    /// Whether the UID was started.
+    fn was_started(&self, uid: u64) -> bool
+        ensures { result ≡ list_any (λ started. started == uid) self.now.started }
+    {
+        self.started.iter().any(|started| *started == uid)
+    }
+
+    /// Whether somebody lives at the address.
+    fn has_living_at(&self, address: &Address) -> bool
+        ensures { result ≡ list_any (lives_at address.now) self.now.live }
+    {
+        self.live.iter().any(|n| n.lives_at(address))
+    }
+
     /// An incarnation starts.
-    #[tactic(auto, using(crate::proofs::Telling::grows_self, crate::proofs::Telling::grows_push))]
+    #[tactic(auto, using(crate::proofs::Asking::starts_not, crate::proofs::Asking::starts_so, crate::proofs::Telling::grows_self))]
     pub fn start(
         &mut self,
         alloc: Global,
@@ -524,22 +559,15 @@ impl Network {
         ensures happens { Happens result (seen self.new out.new) (starts unique (seen self.old out.old)) }
         ensures grows { Grows out.old out.new }
     {
-        let uid = unique.uid;
-        if self.started.iter().any(|started| *started == uid) {
-            return Err(WorldFault::NotAllowed { why: Why::UsedUid });
+        match self.start_fault(&unique) {
+            Some(WorldFault::NotAllowed { why }) => Err(WorldFault::NotAllowed { why }),
+            Some(WorldFault::Limit { which }) => Err(WorldFault::Limit { which }),
+            Some(WorldFault::NoMemory) => Err(WorldFault::NoMemory),
+            None => {
+                self.add(alloc, unique, out)?;
+                Ok(())
+            }
         }
-        if self.live.iter().any(|n| n.lives_at(&unique.address)) {
-            return Err(WorldFault::NotAllowed {
-                why: Why::AddressLive,
-            });
-        }
-        if self.live.len() >= MOST_NODES {
-            return Err(WorldFault::Limit {
-                which: WorldLimit::Nodes,
-            });
-        }
-        self.add(alloc, unique, out)?;
-        Ok(())
     }
 
     /// Adds an incarnation, and tells that it started.
