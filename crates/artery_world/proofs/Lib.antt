@@ -15,3 +15,4 @@ pub mod Arriving
 pub mod Asking
 pub mod Cuts
 pub mod EventLaws
+pub mod Ending

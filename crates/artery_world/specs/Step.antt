@@ -330,3 +330,24 @@ Happens (Ok x) after stepped = stepped ≡ Ok after
 Happens (Err (NotAllowed why)) after stepped = stepped ≡ Err (NotAllowed why)
 Happens (Err (Limit which)) after stepped = stepped ≡ Err (Limit which)
 Happens (Err NoMemory) after stepped = Unit {0}
+
+-- an event that is not allowed changes nothing
+abbrev pub KeepsNet : {X : Type 0} → Result X WorldFault → Net → Net → Type 0
+KeepsNet (Ok x) old new = Unit {0}
+KeepsNet (Err (NotAllowed why)) old new = new ≡ old
+KeepsNet (Err (Limit which)) old new = Unit {0}
+KeepsNet (Err NoMemory) old new = Unit {0}
+
+-- what is allowed by itself
+abbrev pub NeverRefused : {X : Type 0} → Result X WorldFault → Type 0
+NeverRefused (Ok x) = Unit {0}
+NeverRefused (Err (NotAllowed why)) = ⊥
+NeverRefused (Err (Limit which)) = Unit {0}
+NeverRefused (Err NoMemory) = Unit {0}
+
+-- what ends a world: a limit that would be passed, or want of memory
+abbrev pub end_of : {X : Type 0} → Result X WorldFault → Option WorldFault
+end_of (Ok x) = None
+end_of (Err (NotAllowed why)) = None
+end_of (Err (Limit which)) = Some (Limit which)
+end_of (Err NoMemory) = Some NoMemory

@@ -7,6 +7,7 @@ use Rattle.artery_delivery.specs.Outbound.{Kept, nothing_kept}
 use Rattle.artery_world.specs.declared.event.Parcel.{Parcel}
 use Rattle.artery_world.specs.declared.event.Pending.{Pending}
 use Rattle.artery_world.specs.declared.line.Line.{Line}
+use Rattle.artery_world.specs.declared.fault.WorldFault.{WorldFault}
 
 -- whether two addresses are the same
 abbrev pub same_address : Address → Address → Bool
@@ -70,3 +71,8 @@ node_of uid net = find (has_uid uid) net.live
 
 abbrev pub peer_of : ℕ → Address → Net → Option PeerState
 peer_of uid address net = option_and_then (λ n. find (is_at address) n.peers) (node_of uid net)
+
+-- a world as it runs: its net, and what has ended it, if so
+pub record Running : Type 0 where
+  pub net : Net
+  pub ended : Option WorldFault

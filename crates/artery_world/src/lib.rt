@@ -26,6 +26,7 @@ pub use lines::Lines;
 pub use printing::{print_line, print_lines};
 pub use script::{Script, ScriptFault, ScriptLine, read_script};
 pub use spelling::events_are_spelled;
+pub use world::World;
 
 #[cfg(test)]
 mod text_tests;

@@ -4,7 +4,7 @@ ghost use Rattle.std.specs.List.{list_any};
 ghost use Rattle.artery_delivery.specs.Outbound.{acceptance, kept_accepted, kept_acknowledged};
 ghost use Rattle.artery_world.specs.Lookup.{Grows};
 ghost use Rattle.artery_world.specs.World.{Net, World, nothing, seen, has_uid, lives_at, node_of, peer_of};
-ghost use Rattle.artery_world.specs.Step.{in_node, in_peer, with_outbound, joins, has_link, puts, pumps, pumps_onto, current_at, opens, with_peer, learnt_peer, learns, links_up, meets, settles, settles_all, pairs_up, arrives_at, takes_next, counted, arrives, arrive_all, delivers, delivers_each, passes, passes_times, asks_at, unique_at, told_accepted, on_net, sends, starts, started, start_fault, named, asked, Happens};
+ghost use Rattle.artery_world.specs.Step.{in_node, in_peer, with_outbound, joins, has_link, puts, pumps, pumps_onto, current_at, opens, with_peer, learnt_peer, learns, links_up, meets, settles, settles_all, pairs_up, arrives_at, takes_next, counted, arrives, arrive_all, delivers, delivers_each, passes, passes_times, asks_at, unique_at, told_accepted, on_net, sends, starts, started, start_fault, named, asked, Happens, KeepsNet, NeverRefused};
 ghost use Rattle.artery_world.specs.declared.line.Line.TheVariants as lines;
 ghost use Rattle.artery_world.specs.declared.event.Parcel.TheVariants as parcels;
 
@@ -494,6 +494,7 @@ impl Network {
         out: &mut Lines,
     ) -> Result<(), WorldFault>
         ensures happens { Happens result (seen self.new out.new) (sends me.now address.now message (seen self.old out.old)) }
+        ensures allowed { NeverRefused result }
         ensures grows { Grows out.old out.new }
     {
         let Some(peer) = self.peer(me.uid, address) else {
@@ -557,6 +558,7 @@ impl Network {
         out: &mut Lines,
     ) -> Result<(), WorldFault>
         ensures happens { Happens result (seen self.new out.new) (starts unique (seen self.old out.old)) }
+        ensures same { KeepsNet result self.old self.new }
         ensures grows { Grows out.old out.new }
     {
         match self.start_fault(&unique) {
@@ -584,7 +586,7 @@ impl Network {
     }
 
     /// An incarnation is asked something.
-    #[tactic(auto, using(crate::proofs::Asking::asks_as, crate::proofs::Telling::grows_self))]
+    #[tactic(auto, using(crate::proofs::Ending::never_refused, crate::proofs::Asking::asks_as, crate::proofs::Telling::grows_self))]
     pub fn request(
         &mut self,
         alloc: Global,
@@ -593,6 +595,7 @@ impl Network {
         out: &mut Lines,
     ) -> Result<(), WorldFault>
         ensures happens { Happens result (seen self.new out.new) (asked (node_of uid self.old) request (seen self.old out.old)) }
+        ensures same { KeepsNet result self.old self.new }
         ensures grows { Grows out.old out.new }
     {
         let Some(node) = self.node(uid) else {
