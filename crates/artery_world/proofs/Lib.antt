@@ -16,3 +16,4 @@ pub mod Asking
 pub mod Cuts
 pub mod EventLaws
 pub mod Ending
+pub mod GoingOn

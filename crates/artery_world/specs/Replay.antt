@@ -1,7 +1,8 @@
 -- A whole run: the events of a script in order, up to the first that does not happen.
-use Rattle.std.specs.Prelude.{ℕ, List, [], ◌∷◌, Option, None, Some, Result, Ok, Err}
+use Rattle.std.specs.Prelude.{ℕ, List, [], ◌∷◌, ◌++◌, Option, None, Some, Result, Ok, Err}
 use Rattle.artery_world.specs.declared.fault.WorldFault.{WorldFault}
 use Rattle.artery_world.specs.declared.script.ScriptLine.{ScriptLine}
+use Rattle.artery_world.specs.declared.line.Line.{Line}
 use Rattle.artery_world.specs.World.{World, nothing}
 use Rattle.artery_world.specs.Step.{step}
 
@@ -22,3 +23,11 @@ run_from (l ∷ ls) w = goes_on l.line w (run_from ls) (step l.event w)
 -- a script begins where nothing has happened
 abbrev pub run : List ScriptLine → Run
 run script = run_from script nothing
+
+-- the same world, with lines written before all others
+abbrev pub with_lines_before : List Line → World → World
+with_lines_before lines w = record w { journal = lines ++ w.journal }
+
+abbrev pub with_lines_before_result : List Line → Result World WorldFault → Result World WorldFault
+with_lines_before_result lines (Ok w) = Ok (with_lines_before lines w)
+with_lines_before_result lines (Err fault) = Err fault

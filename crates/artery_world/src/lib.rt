@@ -20,7 +20,7 @@ mod world;
 pub use event::{Event, Parcel, Pending};
 pub use event_text::{LineFault, read_event};
 pub use fault::{Why, WorldFault, WorldLimit};
-pub use laws::prefix_law;
+pub use laws::{journal_goes_on, prefix_law};
 pub use line::Line;
 pub use lines::Lines;
 pub use printing::{print_line, print_lines};
