@@ -1,0 +1,33 @@
+-- What an event of a script does to a world that plays it, and to the sink.
+use Rattle.std.specs.Prelude.{◌≡◌, ℕ, List, [], ◌++◌, Option, None, Some, Result, Ok, Err}
+use Rattle.std.specs.Io.KnownBytes.{Appends, Keeps, Consumes}
+use Rattle.artery_cli.specs.declared.gather.Gathered.{Gathered}
+use Rattle.artery_cli.specs.declared.gather.Gathered.TheVariants.{Whole, TooLong}
+use Rattle.artery_cli.specs.declared.gather.TheConstants.{MOST_BYTES}
+use Rattle.artery_world.specs.declared.event.Event.{Event}
+use Rattle.artery_world.specs.declared.fault.WorldFault.{WorldFault}
+use Rattle.artery_world.specs.declared.line.Line.{Line}
+use Rattle.artery_world.specs.World.{Net, seen}
+use Rattle.artery_world.specs.Step.{step}
+use Rattle.artery_world.specs.Texts.{journal_text}
+use Rattle.std.specs.Prelude.{length, ◌≤◌, ◌<◌, IfSome}
+
+-- the event happened, whatever was written before it, and the lines that it added were written
+pub record Happened (event : Event) (old new : Net) (held held' : Option (List ℕ)) : Type 0 where
+  pub lines : List Line
+  pub written : Appends held held' (journal_text lines)
+  pub happened : (before : List Line) → step event (seen old before) ≡ Ok (seen new (before ++ lines))
+
+-- the event did not happen, and nothing was written
+pub record Refused (event : Event) (old : Net) (held held' : Option (List ℕ)) (fault : WorldFault) : Type 0 where
+  pub kept : Keeps held held'
+  pub refused : (before : List Line) → step event (seen old before) ≡ Err fault
+
+abbrev pub Plays : Option WorldFault → Event → Net → Net → Option (List ℕ) → Option (List ℕ) → Type 0
+Plays None event old new held held' = Happened event old new held held'
+Plays (Some fault) event old new held held' = Refused event old held held' fault
+
+-- what was read is the whole text within the limit, or the text is longer
+abbrev pub Gathers : Gathered → List ℕ → Type 0
+Gathers (Whole bytes) text = (bytes ≡ text) × (length text ≤ MOST_BYTES)
+Gathers TooLong text = MOST_BYTES < length text

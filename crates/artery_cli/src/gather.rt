@@ -1,0 +1,45 @@
+ghost use Rattle.std.specs.Prelude.{ℕ, ◌<◌, length, IfOk, IfSome, IsErrOf};
+ghost use Rattle.artery_base.specs.Faults.{Rose};
+ghost use Rattle.artery_cli.specs.Playing.{Gathers};
+ghost use Rattle.artery_cli.specs.declared.stop.Stop.TheVariants as stops;
+
+use crate::stop::Stop;
+use artery_base::{Bytes, Failed, Source};
+use std::alloc::Global;
+
+/// The most bytes of an input that is read whole.
+pub const MOST_BYTES: usize = 67_108_864;
+
+/// What reading to the end came to.
+#[derive(Debug, Drop)]
+pub enum Gathered {
+    /// All that was left, at most `MOST_BYTES`.
+    Whole(Bytes),
+    /// There are more bytes.
+    TooLong,
+}
+
+/// Reads all that is left, or up to the piece in which there are more than `MOST_BYTES`.
+pub fn gather<S: Source>(alloc: Global, input: &mut S, buffer: &mut [u8]) -> Result<Gathered, Stop>
+    requires { 0 < length buffer.old }
+    ensures whole { IfOk result (λ gathered. IfSome (S.left input.old) (λ text. Gathers gathered text)) }
+    ensures read { IsErrOf result stops.Read → Rose (S.faults input.old) (S.faults input.new) }
+    ensures other { IsErrOf result stops.Write → ⊥ }
+{
+    let mut bytes = Bytes::new(alloc);
+    for _ in 0..u64::MAX {
+        let count = match input.read(buffer) {
+            Ok(count) => count,
+            Err(Failed) => return Err(Stop::Read),
+        };
+        if count == 0 {
+            return Ok(Gathered::Whole(bytes));
+        }
+        let (piece, _) = buffer.split_at(count);
+        bytes.extend_from_slice(piece)?;
+        if bytes.len() > MOST_BYTES {
+            return Ok(Gathered::TooLong);
+        }
+    }
+    Err(Stop::NoMemory)
+}

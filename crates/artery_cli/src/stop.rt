@@ -1,0 +1,23 @@
+use artery_base::NoMemory;
+
+/// Why a command ends before its work is done.
+#[derive(Clone, Copy, Debug, PartialEq, Eq)]
+pub enum Stop {
+    /// The source failed.
+    Read,
+    /// The sink failed.
+    Write,
+    /// Memory ran out.
+    NoMemory,
+}
+
+impl From<NoMemory> for Stop {
+    ghost use Rattle.std.specs.Prelude.{◌≡◌};
+    ghost use Rattle.artery_cli.specs.declared.stop.Stop.TheVariants as stops;
+
+    ghost from_gives = { λ _ e. e ≡ stops.NoMemory };
+
+    fn from(_want: NoMemory) -> Stop {
+        Stop::NoMemory
+    }
+}
