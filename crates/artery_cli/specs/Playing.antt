@@ -7,6 +7,8 @@ use Rattle.artery_cli.specs.declared.gather.TheConstants.{MOST_BYTES}
 use Rattle.artery_world.specs.declared.event.Event.{Event}
 use Rattle.artery_world.specs.declared.fault.WorldFault.{WorldFault}
 use Rattle.artery_world.specs.declared.line.Line.{Line}
+use Rattle.artery_world.specs.declared.script.ScriptLine.{ScriptLine}
+use Rattle.artery_world.specs.Replay.{run}
 use Rattle.artery_world.specs.World.{Net, seen}
 use Rattle.artery_world.specs.Step.{step}
 use Rattle.artery_world.specs.Texts.{journal_text}
@@ -31,3 +33,8 @@ Plays (Some fault) event old new held held' = Refused event old held held' fault
 abbrev pub Gathers : Gathered → List ℕ → Type 0
 Gathers (Whole bytes) text = (bytes ≡ text) × (length text ≤ MOST_BYTES)
 Gathers TooLong text = MOST_BYTES < length text
+
+-- a script that was played to its end, or to the event that does not happen: its journal was written, and the stop is told
+pub record PlayedTo (script : List ScriptLine) (stop : Option (ℕ × WorldFault)) (old new : Option (List ℕ)) : Type 0 where
+  pub written : Appends old new (journal_text (run script).world.journal)
+  pub is_stop : stop ≡ (run script).stop

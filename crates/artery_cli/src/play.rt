@@ -1,0 +1,133 @@
+ghost use Rattle.std.specs.Prelude.{◌≡◌, ℕ, ◌≤◌, None, Some, Ok, IfOk, OnOk, IsErrOf};
+ghost use Rattle.std.specs.Io.KnownBytes.{Appends};
+ghost use Rattle.artery_base.specs.Faults.{Rose};
+ghost use Rattle.artery_cli.specs.Playing.{PlayedTo, Plays};
+ghost use Rattle.artery_cli.specs.declared.stop.Stop.TheVariants as stops;
+ghost use Rattle.artery_world.specs.Texts.{journal_text};
+
+use crate::stop::Stop;
+use artery_base::{
+    Address, Bytes, Failed, NoMemory, Request, Sink, SysMsg, UniqueAddress, write_all,
+};
+use artery_world::{Event, Lines, Script, World, WorldFault, journal_goes_on, print_lines};
+use std::alloc::Global;
+
+/// A copy of an address.
+fn copy_of_address(address: &Address) -> Result<Address, NoMemory>
+    ensures { IfOk result (λ copy. copy ≡ address.now) }
+{
+    Ok(address.clone()?)
+}
+
+/// A copy of a message.
+fn copy_of_message(message: &SysMsg) -> Result<SysMsg, NoMemory>
+    ensures { IfOk result (λ copy. copy ≡ message.now) }
+{
+    Ok(message.clone()?)
+}
+
+/// A copy of a request.
+fn copy_of_request(request: &Request) -> Result<Request, NoMemory>
+    ensures { IfOk result (λ copy. copy ≡ request.now) }
+{
+    match request {
+        Request::Pair { address } => Ok(Request::Pair {
+            address: copy_of_address(address)?,
+        }),
+        Request::Send { address, message } => Ok(Request::Send {
+            address: copy_of_address(address)?,
+            message: copy_of_message(message)?,
+        }),
+    }
+}
+
+/// A copy of a unique address.
+fn copy_of_unique(unique: &UniqueAddress) -> Result<UniqueAddress, NoMemory>
+    ensures { IfOk result (λ copy. copy ≡ unique.now) }
+{
+    Ok(unique.clone()?)
+}
+
+/// A copy of an event.
+fn copy_of_event(event: &Event) -> Result<Event, NoMemory>
+    ensures { IfOk result (λ copy. copy ≡ event.now) }
+{
+    match event {
+        Event::Start { unique } => Ok(Event::Start {
+            unique: copy_of_unique(unique)?,
+        }),
+        Event::At { uid, request } => Ok(Event::At {
+            uid: *uid,
+            request: copy_of_request(request)?,
+        }),
+        Event::Pass { rounds } => Ok(Event::Pass { rounds: *rounds }),
+    }
+}
+
+/// Writes lines of a journal.
+fn write_lines<K: Sink>(lines: &Lines, text: &mut Bytes, output: &mut K) -> Result<(), Stop>
+    ensures written { OnOk result (Appends (K.held output.old) (K.held output.new) (journal_text lines.now)) }
+    ensures write { IsErrOf result stops.Write → Rose (K.faults output.old) (K.faults output.new) }
+    ensures later { K.faults output.old ≤ K.faults output.new }
+    ensures other { IsErrOf result stops.Read → ⊥ }
+{
+    text.clear();
+    print_lines(lines, text)?;
+    match write_all(output, text.as_slice()) {
+        Ok(()) => Ok(()),
+        Err(Failed) => Err(Stop::Write),
+    }
+}
+
+/// Lets an event happen in a world that runs, and writes the lines that it adds; or tells why it
+/// does not happen.
+fn play_event<K: Sink>(
+    alloc: Global,
+    world: &mut World,
+    event: &Event,
+    text: &mut Bytes,
+    output: &mut K,
+) -> Result<Option<WorldFault>, Stop>
+    requires { world.old.ended ≡ None }
+    ensures plays { IfOk result (λ fault. Plays fault event.now world.old.net world.new.net (K.held output.old) (K.held output.new)) }
+    ensures runs { result ≡ Ok None → world.new.ended ≡ None }
+    ensures write { IsErrOf result stops.Write → Rose (K.faults output.old) (K.faults output.new) }
+    ensures later { K.faults output.old ≤ K.faults output.new }
+    ensures other { IsErrOf result stops.Read → ⊥ }
+{
+    journal_goes_on();
+    let mut lines = Lines::new(alloc);
+    let copy = copy_of_event(event)?;
+    match world.apply(alloc, copy, &mut lines) {
+        Ok(()) => {
+            write_lines(&lines, text, output)?;
+            Ok(None)
+        }
+        Err(WorldFault::NoMemory) => Err(Stop::NoMemory),
+        Err(WorldFault::NotAllowed { why }) => Ok(Some(WorldFault::NotAllowed { why })),
+        Err(WorldFault::Limit { which }) => Ok(Some(WorldFault::Limit { which })),
+    }
+}
+
+/// Plays a script: its events happen in order up to the first that does not, and the lines of each
+/// are written before the next.
+pub fn play<K: Sink>(
+    alloc: Global,
+    script: &Script,
+    output: &mut K,
+) -> Result<Option<(u64, WorldFault)>, Stop>
+    ensures played { IfOk result (λ stop. PlayedTo script.now stop (K.held output.old) (K.held output.new)) }
+    ensures write { IsErrOf result stops.Write → Rose (K.faults output.old) (K.faults output.new) }
+    ensures later { K.faults output.old ≤ K.faults output.new }
+    ensures other { IsErrOf result stops.Read → ⊥ }
+{
+    let mut world = World::new(alloc);
+    let mut text = Bytes::new(alloc);
+    for line in script.as_slice() {
+        match play_event(alloc, &mut world, &line.event, &mut text, output)? {
+            None => {}
+            Some(fault) => return Ok(Some((line.line, fault))),
+        }
+    }
+    Ok(None)
+}
