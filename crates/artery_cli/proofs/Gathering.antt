@@ -2,8 +2,8 @@
 use Rattle.std.proofs.Common.{◌≡◌, ℕ, ◌+◌, ◌≤◌, ◌<◌, List, [], ◌++◌, length, take, refl, sym, ◌∙◌, ap, append_assoc, append-nil, arith, length-append}
 use Rattle.std.specs.Prelude.{Option, None, Some, IfSome}
 use Rattle.std.specs.Io.KnownBytes.{Consumes, IsAtEnd}
-use Rattle.artery_cli.specs.declared.gather.Gathered.TheVariants.{Whole, TooLong}
-use Rattle.artery_cli.specs.declared.gather.TheConstants.{MOST_BYTES}
+use Rattle.artery_cli.specs.declared.input.Gathered.TheVariants.{Whole, TooLong}
+use Rattle.artery_cli.specs.declared.input.TheConstants.{MOST_BYTES}
 use Rattle.artery_cli.specs.Playing.{Gathers}
 
 pub nothing_read : (old : Option (List ℕ)) → Consumes old old []

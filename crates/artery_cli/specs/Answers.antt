@@ -1,7 +1,7 @@
 -- What a command writes, and its status.
 use Rattle.std.specs.Prelude.{◌≡◌, ℕ, Bool, false, nat_lt, if◌then◌else◌, List, [], ◌∷◌, ◌++◌, length, codes, decimal, bytes_eq, Option, None, Some, Result, Ok, Err}
 use Rattle.std.specs.Io.KnownBytes.{Appends}
-use Rattle.artery_cli.specs.declared.gather.TheConstants.{MOST_BYTES}
+use Rattle.artery_cli.specs.declared.input.TheConstants.{MOST_BYTES}
 use Rattle.artery_world.specs.declared.fault.Why.{Why}
 use Rattle.artery_world.specs.declared.fault.Why.TheVariants.{UsedUid, AddressLive, NotLive, OwnAddress}
 use Rattle.artery_world.specs.declared.fault.WorldLimit.{WorldLimit}
@@ -77,9 +77,16 @@ pub record Answers (a : Answer) (old new : Option (List ℕ)) (status : ℕ) : T
   pub written : Appends old new a.written
   pub is_status : status ≡ a.status
 
--- what is written begins with a lawful journal; behind it stands nothing, or one fault line
-pub record IsLawfulAnswer (a : Answer) : Type 0 where
+-- neither the source nor the sink failed, and memory was there
+abbrev pub IsDone : ℕ → Type 0
+IsDone status = (status ≡ 3 → ⊥) × (status ≡ 4 → ⊥) × (status ≡ 9 → ⊥)
+
+abbrev pub read_fault : List ℕ
+read_fault = codes "fault read\n"
+
+-- what was written begins with a lawful journal; behind it stands nothing, or one fault line
+pub record WritesLawfully (old new : Option (List ℕ)) : Type 0 where
   pub journal : List Line
   pub fault : List ℕ
-  pub written : a.written ≡ journal_text journal ++ fault
+  pub written : Appends old new (journal_text journal ++ fault)
   pub lawful : IsLawful journal

@@ -1,9 +1,9 @@
 -- What an event of a script does to a world that plays it, and to the sink.
 use Rattle.std.specs.Prelude.{◌≡◌, ℕ, List, [], ◌++◌, Option, None, Some, Result, Ok, Err}
 use Rattle.std.specs.Io.KnownBytes.{Appends, Keeps, Consumes}
-use Rattle.artery_cli.specs.declared.gather.Gathered.{Gathered}
-use Rattle.artery_cli.specs.declared.gather.Gathered.TheVariants.{Whole, TooLong}
-use Rattle.artery_cli.specs.declared.gather.TheConstants.{MOST_BYTES}
+use Rattle.artery_cli.specs.declared.input.Gathered.{Gathered}
+use Rattle.artery_cli.specs.declared.input.Gathered.TheVariants.{Whole, TooLong}
+use Rattle.artery_cli.specs.declared.input.TheConstants.{MOST_BYTES}
 use Rattle.artery_world.specs.declared.event.Event.{Event}
 use Rattle.artery_world.specs.declared.fault.WorldFault.{WorldFault}
 use Rattle.artery_world.specs.declared.line.Line.{Line}

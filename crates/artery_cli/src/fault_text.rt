@@ -65,7 +65,8 @@ fn told(alloc: Global, line: u64, verb: &[u8], word: &[u8]) -> Result<Bytes, NoM
 
 /// The status of a run that stopped.
 pub fn stop_status(fault: WorldFault) -> u8
-    ensures { result ≡ stop_status fault }
+    ensures value { result ≡ stop_status fault }
+    ensures plain { (result ≡ 3 → ⊥) × (result ≡ 4 → ⊥) }
 {
     match fault {
         WorldFault::NotAllowed { .. } => 5,

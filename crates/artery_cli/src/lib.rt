@@ -1,10 +1,20 @@
 //! The commands of the program, as functions of words, a source and a sink.
+//!
+//! `run` does the command that its words name: it reads what it reads of the source, writes its
+//! answer to the sink and gives the status. What it writes, and the status, are a stated function
+//! of the words and the input; only want of memory, a source that fails and a sink that fails
+//! change them.
 #![tactic(auto)]
 
+mod answering;
 mod fault_text;
-mod gather;
-mod play;
-mod replay;
+mod input;
+mod playing;
 mod stop;
+mod top;
 
-pub use gather::MOST_BYTES;
+pub use input::MOST_BYTES;
+pub use top::run;
+
+#[cfg(test)]
+mod tests;

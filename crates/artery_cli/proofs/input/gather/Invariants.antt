@@ -1,7 +1,7 @@
 use Rattle.std.proofs.Common.{◌≤◌, ◌<◌, length}
 use Rattle.std.specs.Io.KnownBytes.{Consumes}
-use Rattle.artery_cli.specs.declared.gather.TheConstants.{MOST_BYTES}
-use Rattle.artery_cli.proofs.gather.gather.Given as goal
+use Rattle.artery_cli.specs.declared.input.TheConstants.{MOST_BYTES}
+use Rattle.artery_cli.proofs.input.gather.Given as goal
 
 abbrev pub invariant-loop : goal.invariant-loop
 invariant-loop g l = record {

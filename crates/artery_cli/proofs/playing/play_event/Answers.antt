@@ -1,6 +1,6 @@
 use Rattle.artery_cli.proofs.PlayingLemmas.{happened_before, refused_before, keeps_same, not_allowed, limited}
 use Rattle.artery_world.specs.World.{seen}
-use Rattle.artery_cli.proofs.play.play_event.Goals as goal
+use Rattle.artery_cli.proofs.playing.play_event.Goals as goal
 
 pub returns-in-Ok-clause-plays : goal.returns-in-Ok-clause-plays
 returns-in-Ok-clause-plays g c = record {

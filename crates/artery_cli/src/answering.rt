@@ -6,15 +6,15 @@ ghost use Rattle.artery_cli.specs.declared.stop.Stop.TheVariants as stops;
 ghost use Rattle.artery_world.specs.Script.{script_of};
 
 use crate::fault_text::{bad_line, stop_status, stop_text};
-use crate::gather::{Gathered, gather};
-use crate::play::play;
+use crate::input::{Gathered, gather};
+use crate::playing::play;
 use crate::stop::Stop;
-use artery_base::{Failed, Sink, Source, Text, write_all};
+use artery_base::{Failed, NoMemory, Sink, Source, Text, write_all};
 use artery_world::{ScriptFault, read_script};
-use std::alloc::{AllocError, Global};
+use std::alloc::Global;
 
 /// Writes a text.
-fn put<K: Sink>(output: &mut K, text: &[u8]) -> Result<(), Stop>
+pub fn put<K: Sink>(output: &mut K, text: &[u8]) -> Result<(), Stop>
     ensures written { OnOk result (Appends (K.held output.old) (K.held output.new) text.now) }
     ensures write { IsErrOf result stops.Write → Rose (K.faults output.old) (K.faults output.new) }
     ensures later { K.faults output.old ≤ K.faults output.new }
@@ -29,6 +29,8 @@ fn put<K: Sink>(output: &mut K, text: &[u8]) -> Result<(), Stop>
 /// Answers the text of a script: plays it, or tells its first fault.
 fn replay_text<K: Sink>(alloc: Global, text: &[u8], output: &mut K) -> Result<u8, Stop>
     ensures answers { IfOk result (λ status. Answers (script_answer (script_of text.now)) (K.held output.old) (K.held output.new) status) }
+    ensures plain { IfOk result (λ status. (status ≡ 3 → ⊥) × (status ≡ 4 → ⊥)) }
+    ensures later { K.faults output.old ≤ K.faults output.new }
     ensures write { IsErrOf result stops.Write → Rose (K.faults output.old) (K.faults output.new) }
     ensures other { IsErrOf result stops.Read → ⊥ }
 {
@@ -54,14 +56,14 @@ fn replay_text<K: Sink>(alloc: Global, text: &[u8], output: &mut K) -> Result<u8
 }
 
 /// A buffer for pieces of an input.
-fn new_buffer(alloc: Global) -> Result<Vec<u8>, AllocError>
+pub fn new_buffer(alloc: Global) -> Result<Vec<u8>, NoMemory>
     ensures { IfOk result (λ buffer. 0 < vec_len buffer) }
 {
-    vec![in alloc; 0u8; 65536]
+    Ok(vec![in alloc; 0u8; 65536]?)
 }
 
 /// Reads the input whole and answers it as a script.
-fn replay<S: Source, K: Sink>(
+pub fn replay<S: Source, K: Sink>(
     alloc: Global,
     input: &mut S,
     output: &mut K,
@@ -71,6 +73,8 @@ fn replay<S: Source, K: Sink>(
     ensures answers { IfOk result (λ status. IfSome (S.left input.old) (λ text. Answers (replay_answer text) (K.held output.old) (K.held output.new) status)) }
     ensures read { IsErrOf result stops.Read → Rose (S.faults input.old) (S.faults input.new) }
     ensures unwritten { IsErrOf result stops.Read → Keeps (K.held output.old) (K.held output.new) }
+    ensures plain { IfOk result (λ status. (status ≡ 3 → ⊥) × (status ≡ 4 → ⊥)) }
+    ensures later { K.faults output.old ≤ K.faults output.new }
     ensures write { IsErrOf result stops.Write → Rose (K.faults output.old) (K.faults output.new) }
 {
     match gather(alloc, input, buffer)? {

@@ -1,6 +1,6 @@
 use Rattle.std.proofs.Common.{◌≡◌, ◌≤◌, drop, None}
 use Rattle.artery_cli.proofs.PlayingLemmas.{PlayedSoFar}
-use Rattle.artery_cli.proofs.play.play.Given as goal
+use Rattle.artery_cli.proofs.playing.play.Given as goal
 
 abbrev pub invariant-loop-line : goal.invariant-loop-line
 invariant-loop-line g l = record {

@@ -3,7 +3,7 @@ use Rattle.std.specs.Prelude.{Option, None, Some, Ok}
 use Rattle.artery_world.specs.declared.fault.WorldFault.{WorldFault}
 use Rattle.artery_cli.specs.Playing.{Plays}
 use Rattle.artery_cli.proofs.PlayingLemmas.{plays_next, plays_stop, line_is_first}
-use Rattle.artery_cli.proofs.play.play.Goals as goal
+use Rattle.artery_cli.proofs.playing.play.Goals as goal
 
 pub returns-in-Some-clause-played : goal.returns-in-Some-clause-played
 returns-in-Some-clause-played g c =
