@@ -5,12 +5,12 @@
 use artery_base::{Failed, Sink, StdSink, StdSource, Text, TextFault, text_of, write_all};
 use artery_cli::run;
 use std::alloc::Global;
-use std::env;
-use std::io;
 use std::process::ExitCode;
+use std::{env, io};
 
 /// What the program does, for `--help`.
-const USAGE: &[u8] = b"artery replay < SCRIPT   writes the journal of a script of a network\nartery --help            tells this\nartery --version         tells the version\n";
+const USAGE: &[u8] =
+    b"artery replay < SCRIPT   writes the journal of a script of a network\nartery --help            tells this\nartery --version         tells the version\n";
 
 /// The version, for `--version`.
 const VERSION: &[u8] = b"artery 0.1.0\n";

@@ -24,6 +24,3 @@ pub use laws::written_is_read_again;
 pub use message::read_control;
 pub use path::Path;
 pub use writing::{manifest_of, write_control};
-
-#[cfg(test)]
-mod tests;
