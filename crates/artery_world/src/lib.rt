@@ -1,4 +1,11 @@
-//! The early world.
+//! A whole network that a script drives, as values: the incarnations that live, the links between them and the
+//! journal of what they did.
+//!
+//! `read_script` reads the events of a script, or its first bad line. `World::apply` makes one event happen and adds
+//! its lines to the journal, or refuses it by name. `prefix_law` and `journal_goes_on` are the laws of every script:
+//! at each line, what one incarnation took from another is a prefix of what was sent to it before.
+//!
+//! In this world links carry values, never bytes, and none is cut; nobody stops, and nothing is watched.
 #![tactic(auto)]
 
 mod copies;
