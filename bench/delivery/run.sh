@@ -12,7 +12,7 @@ rm -f "$work/crates/artery_delivery/src/tests.rt"
 sed -i '/^#\[cfg(test)\]$/d; /^mod tests;$/d' "$work/crates/artery_delivery/src/lib.rt"
 cp "$here/rattle_main.txt" "$work/crates/delivery_bench/src/main.rt"
 cat > "$work/crates.txt" <<'CRATES'
-artery_base:
+artery_base: itoa
 artery_delivery: artery_base circular_buffer indexmap
 delivery_bench: artery_base artery_delivery
 CRATES

@@ -9,7 +9,7 @@ trap 'rm -rf "$work"' EXIT
 mkdir -p "$work/crates/frame_speed/src"
 cp -r "$top/crates/artery_base" "$top/crates/artery_frame" "$work/crates/"
 cp "$top/bench/frame/frame_main.txt" "$work/crates/frame_speed/src/main.rt"
-printf 'artery_base:\nartery_frame: artery_base byteorder\nframe_speed: artery_base artery_frame\n' > "$work/crates.txt"
+printf 'artery_base: itoa\nartery_frame: artery_base byteorder\nframe_speed: artery_base artery_frame\n' > "$work/crates.txt"
 cc -O2 -march=x86-64-v2 -o "$work/plain" "$top/bench/frame/plain.c"
 cd "$work/crates/frame_speed"
 rt run > "$work/log" 2>&1 || { tail -60 "$work/log"; exit 1; }

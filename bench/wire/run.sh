@@ -7,7 +7,7 @@ copy=$(mktemp -d)
 trap 'rm -rf "$copy"' EXIT
 mkdir -p "$copy/crates"
 cp -r "$here/../../crates/artery_base" "$here/../../crates/artery_wire" "$copy/crates/"
-printf 'artery_base:\nartery_wire: artery_base\nwire_bench: anyhow artery_base artery_wire\n' >"$copy/crates.txt"
+printf 'artery_base: itoa\nartery_wire: artery_base\nwire_bench: anyhow artery_base artery_wire\n' >"$copy/crates.txt"
 mkdir -p "$copy/crates/wire_bench/src"
 cat >"$copy/crates/wire_bench/src/main.rt" <<'RT'
 //! How fast a cursor walks over records.
