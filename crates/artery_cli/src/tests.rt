@@ -109,6 +109,23 @@ fn many_starts(alloc: Global, written: bool) -> Result<Bytes, NoMemory> {
     Ok(text)
 }
 
+/// A message that waits for the first meeting.
+const WAITING: &[u8] = b"start akka://A@h1:25520 1
+start akka://B@h2:25520 2
+at 1 send akka://B@h2:25520 5 x 0102
+pass 1
+pass 1
+";
+
+/// The asker learns first and tells what waited as sent; then the other one learns, and takes it.
+const WAITING_JOURNAL: &[u8] = b"akka://A@h1:25520#1 started
+akka://B@h2:25520#2 started
+akka://A@h1:25520#1 learnt akka://B@h2:25520#2
+akka://A@h1:25520#1 sent akka://B@h2:25520#2 1 5 x 0102
+akka://B@h2:25520#2 learnt akka://A@h1:25520#1
+akka://B@h2:25520#2 took akka://A@h1:25520#1 1 5 x 0102
+";
+
 #[test]
 fn scripts_are_answered(rt: HostRuntime) -> Result<(), Fail> {
     let alloc = rt.alloc();
@@ -146,6 +163,7 @@ fn scripts_are_answered(rt: HostRuntime) -> Result<(), Fail> {
         )?
     );
     assert!(rt; answers(alloc, b"pass 1\npass 2\njump\n", b"fault line 3\n", 2)?);
+    assert!(rt; answers(alloc, WAITING, WAITING_JOURNAL, 0)?);
     assert!(rt; answers(alloc, THREE, THREE_JOURNAL, 0)?);
     let starts = many_starts(alloc, false)?;
     let written = many_starts(alloc, true)?;
