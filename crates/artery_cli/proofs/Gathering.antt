@@ -1,10 +1,10 @@
 -- Pieces that are read one after the other.
-use Rattle.std.proofs.Common.{◌≡◌, ℕ, ◌+◌, ◌≤◌, ◌<◌, List, [], ◌++◌, length, take, refl, sym, ◌∙◌, ap, append_assoc, append-nil, arith, length-append}
+use Rattle.std.proofs.Common.{◌≡◌, ℕ, ◌+◌, ◌≤◌, ◌<◌, List, [], ◌++◌, length, refl, sym, ◌∙◌, ap, append_assoc, append-nil, arith, length-append}
 use Rattle.std.specs.Prelude.{Option, None, Some, IfSome}
 use Rattle.std.specs.Io.KnownBytes.{Consumes, IsAtEnd}
 use Rattle.artery_cli.specs.declared.input.Gathered.TheVariants.{Whole, TooLong}
 use Rattle.artery_cli.specs.declared.input.TheConstants.{MOST_BYTES}
-use Rattle.artery_cli.specs.Playing.{Gathers}
+use Rattle.artery_cli.specs.Playing.{Gathers, ReadsAtMost}
 
 pub nothing_read : (old : Option (List ℕ)) → Consumes old old []
 nothing_read None = tt
@@ -29,3 +29,7 @@ pub too_much_read : (old new : Option (List ℕ)) (bytes : List ℕ) → Consume
 too_much_read None new bytes h l = tt
 too_much_read (Some a) None bytes h l = absurd h
 too_much_read (Some a) (Some b) bytes h l = (let long : length a ≡ length bytes + length b = ap length h ∙ length-append bytes b in omega arith)
+
+pub nothing_taken : (n : ℕ) (old : Option (List ℕ)) → ReadsAtMost n old old
+nothing_taken n None = tt
+nothing_taken n (Some text) = omega arith

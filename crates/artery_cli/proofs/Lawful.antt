@@ -1,17 +1,17 @@
 -- What `replay` answers begins with a lawful journal.
-use Rattle.std.proofs.Common.{arith, ◌≤◌, ◌≡◌, ℕ, Bool, true, false, cond, List, [], ◌∷◌, ◌++◌, length, take, refl, sym, ◌∙◌, ap, subst, append-nil}
+use Rattle.std.proofs.Common.{arith, ◌≤◌, ◌≡◌, ℕ, Bool, true, false, cond, List, [], ◌++◌, length, refl, sym, ◌∙◌, ap, subst, append-nil}
 use Rattle.std.specs.Prelude.{Option, None, Some, IfSome, Result, Ok, Err, nat_lt, codes, zero, suc}
 use Rattle.std.specs.Io.KnownBytes.{Appends, Keeps}
 use Rattle.artery_base.specs.Faults.{Rose}
 use Rattle.artery_cli.specs.declared.input.TheConstants.{MOST_BYTES}
-use Rattle.artery_cli.specs.Answers.{Answer, Answers, WritesLawfully, stop_text, stop_status, stopped, played, script_answer, replay_answer, is_replay, answer}
+use Rattle.artery_cli.specs.Answers.{Answer, Answers, WritesLawfully, stop_text, stopped, played, script_answer, replay_answer, is_replay, answer}
 use Rattle.artery_world.specs.declared.fault.WorldFault.{WorldFault}
 use Rattle.artery_world.specs.declared.line.Line.{Line}
 use Rattle.artery_world.specs.declared.script.ScriptFault.{ScriptFault}
 use Rattle.artery_world.specs.declared.script.ScriptFault.TheVariants.{BadLine, TooManyLines, NoMemory}
 use Rattle.artery_world.specs.declared.script.ScriptLine.{ScriptLine}
-use Rattle.artery_world.specs.Laws.{IsLawful, taken_by, sent_by}
-use Rattle.artery_world.specs.Replay.{Run, run}
+use Rattle.artery_world.specs.Laws.{IsLawful}
+use Rattle.artery_world.specs.Replay.{run}
 use Rattle.artery_world.specs.Script.{script_of}
 use Rattle.artery_world.specs.Texts.{journal_text}
 

@@ -1,7 +1,9 @@
-ghost use Rattle.std.specs.Prelude.{◌≡◌, ℕ, ◌≤◌, ◌<◌, List, length, vec_len, IfOk, OnOk, IfSome, IsErrOf};
+ghost use Rattle.std.specs.Prelude.{◌≡◌, ℕ, ◌+◌, ◌≤◌, ◌<◌, List, length, vec_len, IfOk, OnOk, IfSome, IsErrOf};
 ghost use Rattle.std.specs.Io.KnownBytes.{Appends, Keeps};
 ghost use Rattle.artery_base.specs.Faults.{Rose};
 ghost use Rattle.artery_cli.specs.Answers.{Answers, answer, replay_answer, script_answer, is_replay};
+ghost use Rattle.artery_cli.specs.Playing.{ReadsAtMost};
+ghost use Rattle.artery_cli.specs.declared.input.TheConstants.{MOST_BYTES};
 ghost use Rattle.artery_cli.specs.declared.stop.Stop.TheVariants as stops;
 ghost use Rattle.artery_world.specs.Script.{script_of};
 
@@ -71,6 +73,7 @@ pub fn replay<S: Source, K: Sink>(
 ) -> Result<u8, Stop>
     requires { 0 < length buffer.old }
     ensures answers { IfOk result (λ status. IfSome (S.left input.old) (λ text. Answers (replay_answer text) (K.held output.old) (K.held output.new) status)) }
+    ensures bounded { ReadsAtMost (MOST_BYTES + 1) (S.left input.old) (S.left input.new) }
     ensures read { IsErrOf result stops.Read → Rose (S.faults input.old) (S.faults input.new) }
     ensures unwritten { IsErrOf result stops.Read → Keeps (K.held output.old) (K.held output.new) }
     ensures plain { IfOk result (λ status. (status ≡ 3 → ⊥) × (status ≡ 4 → ⊥)) }

@@ -1,6 +1,7 @@
-ghost use Rattle.std.specs.Prelude.{ℕ, ◌<◌, length, IfOk, IfSome, IsErrOf};
+ghost use Rattle.std.specs.Prelude.{ℕ, ◌+◌, ◌<◌, length, IfOk, IfSome, IsErrOf};
 ghost use Rattle.artery_base.specs.Faults.{Rose};
-ghost use Rattle.artery_cli.specs.Playing.{Gathers};
+ghost use Rattle.artery_cli.specs.Playing.{Gathers, ReadsAtMost};
+ghost use Rattle.artery_cli.specs.declared.input.TheConstants.{MOST_BYTES};
 ghost use Rattle.artery_cli.specs.declared.stop.Stop.TheVariants as stops;
 
 use crate::stop::Stop;
@@ -19,23 +20,26 @@ pub enum Gathered {
     TooLong,
 }
 
-/// Reads all that is left, or up to the piece in which there are more than `MOST_BYTES`.
+/// Reads all that is left, or one byte more than `MOST_BYTES`.
 pub fn gather<S: Source>(alloc: Global, input: &mut S, buffer: &mut [u8]) -> Result<Gathered, Stop>
     requires { 0 < length buffer.old }
     ensures whole { IfOk result (λ gathered. IfSome (S.left input.old) (λ text. Gathers gathered text)) }
+    ensures bounded { ReadsAtMost (MOST_BYTES + 1) (S.left input.old) (S.left input.new) }
     ensures read { IsErrOf result stops.Read → Rose (S.faults input.old) (S.faults input.new) }
     ensures other { IsErrOf result stops.Write → ⊥ }
 {
     let mut bytes = Bytes::new(alloc);
     for _ in 0..u64::MAX {
-        let count = match input.read(buffer) {
+        let room = buffer.len().min(MOST_BYTES + 1 - bytes.len());
+        let (into, _) = buffer.split_at_mut(room);
+        let count = match input.read(into) {
             Ok(count) => count,
             Err(Failed) => return Err(Stop::Read),
         };
         if count == 0 {
             return Ok(Gathered::Whole(bytes));
         }
-        let (piece, _) = buffer.split_at(count);
+        let (piece, _) = into.split_at(count);
         bytes.extend_from_slice(piece)?;
         if bytes.len() > MOST_BYTES {
             return Ok(Gathered::TooLong);

@@ -1,7 +1,9 @@
-ghost use Rattle.std.specs.Prelude.{◌≡◌, ℕ, ◌≤◌, true, false, List, IfOk, IfSome, IsErrOf};
+ghost use Rattle.std.specs.Prelude.{◌≡◌, ℕ, ◌+◌, ◌≤◌, true, false, List, IfOk, IfSome, IsErrOf};
 ghost use Rattle.std.specs.Io.KnownBytes.{Appends, Keeps};
 ghost use Rattle.artery_base.specs.Faults.{Rose};
 ghost use Rattle.artery_cli.specs.Answers.{Answers, IsDone, WritesLawfully, answer, is_replay, read_fault};
+ghost use Rattle.artery_cli.specs.Playing.{ReadsAtMost};
+ghost use Rattle.artery_cli.specs.declared.input.TheConstants.{MOST_BYTES};
 ghost use Rattle.artery_cli.specs.declared.stop.Stop.TheVariants as stops;
 
 use crate::answering::{new_buffer, put, replay};
@@ -21,6 +23,7 @@ fn is_replay(words: &[Text]) -> bool
 }
 
 /// Does the command that the words name.
+#[tactic(auto, using(crate::proofs::Gathering::nothing_taken))]
 fn command<S: Source, K: Sink>(
     alloc: Global,
     words: &[Text],
@@ -29,6 +32,7 @@ fn command<S: Source, K: Sink>(
 ) -> Result<u8, Stop>
     ensures answers { IfOk result (λ status. IfSome (S.left input.old) (λ text. Answers (answer words.now text) (K.held output.old) (K.held output.new) status)) }
     ensures plain { IfOk result (λ status. (status ≡ 3 → ⊥) × (status ≡ 4 → ⊥)) }
+    ensures bounded { ReadsAtMost (MOST_BYTES + 1) (S.left input.old) (S.left input.new) }
     ensures read { IsErrOf result stops.Read → Rose (S.faults input.old) (S.faults input.new) }
     ensures unwritten { IsErrOf result stops.Read → Keeps (K.held output.old) (K.held output.new) }
     ensures later { K.faults output.old ≤ K.faults output.new }
@@ -64,12 +68,15 @@ fn finish<K: Sink>(output: &mut K, text: &[u8], status: u8) -> u8
 /// 6 for more than 67,108,864 bytes (`fault limit bytes`), more than 1,000,000 lines
 /// (`fault limit lines`) and at a limit of the world; 9 where memory ran out (`fault memory`).
 ///
+/// At most 67,108,865 bytes are read of the source.
+///
 /// The journal that is written is lawful: at each line, the messages that one incarnation took from
 /// another are a prefix of those that were sent to it before.
 #[tactic(auto, using(crate::proofs::Lawful::lawful_answer))]
 pub fn run<S: Source, K: Sink>(alloc: Global, words: &[Text], input: &mut S, output: &mut K) -> u8
     ensures answers { IsDone result → IfSome (S.left input.old) (λ text. Answers (answer words.now text) (K.held output.old) (K.held output.new) result) }
     ensures lawful { IsDone result → is_replay words.now ≡ true → IfSome (S.left input.old) (λ _. WritesLawfully (K.held output.old) (K.held output.new)) }
+    ensures bounded { ReadsAtMost (MOST_BYTES + 1) (S.left input.old) (S.left input.new) }
     ensures read { result ≡ 3 → Rose (S.faults input.old) (S.faults input.new) }
     ensures told { result ≡ 3 → Appends (K.held output.old) (K.held output.new) read_fault }
     ensures write { result ≡ 4 → Rose (K.faults output.old) (K.faults output.new) }

@@ -1,5 +1,5 @@
-use Rattle.std.proofs.Common.{◌≡◌, ◌+◌, ◌∷◌, List, ℕ, drop, subst, sym, ◌∙◌, arith, ap}
-use Rattle.std.specs.Prelude.{Option, None, Some, Ok}
+use Rattle.std.proofs.Common.{◌+◌, drop, subst, arith, ap}
+use Rattle.std.specs.Prelude.{Option, Ok}
 use Rattle.artery_world.specs.declared.fault.WorldFault.{WorldFault}
 use Rattle.artery_cli.specs.Playing.{Plays}
 use Rattle.artery_cli.proofs.PlayingLemmas.{plays_next, plays_stop, line_is_first}

@@ -1,6 +1,5 @@
-use Rattle.std.proofs.Common.{◌≡◌, ap, ◌∙◌, arith}
+use Rattle.std.proofs.Common.{ap, arith}
 use Rattle.artery_cli.proofs.Lawful.{lawful_answer, kept_then, rose_later}
-use Rattle.artery_cli.specs.declared.stop.Stop.TheVariants as stops
 use Rattle.std.specs.Prelude.{Err}
 use Rattle.artery_cli.proofs.top.run.Goals as goal
 
