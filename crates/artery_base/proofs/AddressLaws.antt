@@ -1,13 +1,13 @@
 -- An address reads as the value whose spelling it is, and as no other.
-use Rattle.std.proofs.Common.{◌≡◌, ℕ, zero, suc, ◌+◌, ◌-◌, ◌<◌, ◌≤◌, Bool, true, false, not, cond, eqb, ltb, leb, List, [], ◌∷◌, ◌++◌, length, get_or, take, drop, Option, Some, None, Result, Ok, Err, refl, sym, ap, ◌∙◌, arith, rules, append_assoc, subst, inl, inr, add-one, drop-cons}
-use Rattle.std.specs.Prelude.{◌&&◌, ◌||◌, ◌^◌, codes, decimal, position, nat_eq, IfOk}
+use Rattle.std.proofs.Common.{◌≡◌, ℕ, suc, ◌+◌, ◌≤◌, Bool, true, false, not, cond, eqb, List, [], ◌∷◌, ◌++◌, length, get_or, take, drop, Option, Some, None, Result, Ok, Err, refl, sym, ap, ◌∙◌, arith, append_assoc, subst}
+use Rattle.std.specs.Prelude.{codes, decimal, position, nat_eq, IfOk}
 use Rattle.std.specs.List.{list_all, starts_with}
 use Rattle.std.specs.Int.{is_in_range}
 use Rattle.std.specs.Char.{is_ascii_digit}
 use Rattle.std.specs.Option.{option_or}
-use Rattle.std.proofs.lemmas.Bool.{and_parts, ltb-true, lt-ltb, eqb-true}
+use Rattle.std.proofs.lemmas.Bool.{and_parts, eqb-true}
 use Rattle.std.proofs.lemmas.Bool.Decides.{nat_tests}
-use Rattle.std.proofs.lemmas.List.{length-append, length-take, length-drop, take-append-drop, take_at, drop_at}
+use Rattle.std.proofs.lemmas.List.{length-append, take-append-drop, take_at, drop_at}
 use Rattle.std.proofs.lemmas.List.Quantifiers.{position-Some}
 use Rattle.artery_base.specs.declared.address.Address.{Address}
 use Rattle.artery_base.specs.declared.address.UniqueAddress.{UniqueAddress}

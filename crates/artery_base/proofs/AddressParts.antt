@@ -1,20 +1,16 @@
 -- The parts of an address.
-use Rattle.std.proofs.Common.{◌≡◌, ℕ, zero, suc, ◌+◌, ◌-◌, ◌<◌, ◌≤◌, Bool, true, false, not, cond, eqb, ltb, leb, List, [], ◌∷◌, ◌++◌, length, get_or, take, drop, Option, Some, None, Result, Ok, Err, refl, sym, ap, ◌∙◌, arith, rules, append_assoc, subst, inl, inr, add-one, drop-cons}
-use Rattle.std.specs.Prelude.{◌&&◌, ◌||◌, codes, decimal, position, nat_eq, nat_lt, IsAscii, IfOk}
+use Rattle.std.proofs.Common.{◌≡◌, ℕ, suc, ◌+◌, ◌-◌, ◌<◌, ◌≤◌, Bool, true, false, not, eqb, List, [], ◌∷◌, ◌++◌, length, get_or, take, drop, Option, Some, None, Ok, Err, refl, sym, ap, ◌∙◌, arith, drop-cons}
+use Rattle.std.specs.Prelude.{codes, position, nat_eq, IsAscii}
 use Rattle.std.specs.List.{list_all, starts_with}
-use Rattle.std.specs.Int.{is_in_range}
 use Rattle.std.specs.Option.{option_or}
-use Rattle.std.proofs.lemmas.Bool.{and_parts, ltb-true, ltb-false, lt-ltb, le-ltb, cases_lt, eqb-true}
+use Rattle.std.proofs.lemmas.Bool.{and_parts}
 use Rattle.std.proofs.lemmas.Bool.Decides.{nat_tests}
-use Rattle.std.proofs.lemmas.List.{length-append, length-take, length-drop, take-append-drop, take_at, drop_at, take_all, take_more, append-nil}
-use Rattle.std.proofs.lemmas.List.Quantifiers.{position-Some}
+use Rattle.std.proofs.lemmas.List.{length-take, length-drop, take-append-drop, take_all, take_more}
 use Rattle.std.proofs.lemmas.Slice.Eq.{bytes_eq-Decides}
 use Rattle.std.proofs.lemmas.Str.Ascii.{IsAscii-nil, IsAscii-cons}
-use Rattle.artery_base.specs.declared.address.Address.{Address}
-use Rattle.artery_base.specs.declared.fault.AddressFault.{AddressFault}
 use Rattle.artery_base.specs.declared.fault.AddressFault.TheVariants as address_faults
-use Rattle.artery_base.specs.Spelling.{is_part_byte, IsPart, IsAddress, address_text}
-use Rattle.artery_base.specs.Reading.{later, scheme_end, cut, Parts, parts_of, bad_length, bad_byte, bad_char, port_number, number_of, with_port, after_chars, after_lengths, address_in, address_of, last_hash, Gives, address_memory, ◌>>=◌}
+use Rattle.artery_base.specs.Spelling.{is_part_byte}
+use Rattle.artery_base.specs.Reading.{later, scheme_end, Parts, parts_of, bad_byte, bad_char, last_hash}
 use Rattle.artery_base.proofs.HexPairs.{later_later, zero_add, later_none}
 use Rattle.artery_base.proofs.Places.{position_none, position_at, none_position, all_weaker}
 

@@ -1,7 +1,6 @@
 -- A buffer that only grows.
-use Rattle.std.proofs.Common.{◌≡◌, ℕ, ◌+◌, ◌<◌, ◌≤◌, List, [], ◌∷◌, ◌++◌, length, get_or, take, drop, refl, sym, ap, ◌∙◌, arith, append_assoc, drop-cons}
-use Rattle.std.specs.Prelude.{flat_map}
-use Rattle.std.proofs.lemmas.List.{length-append, length-take, take-append-le, take-take, take_at, append-nil}
+use Rattle.std.proofs.Common.{◌≡◌, ℕ, ◌+◌, ◌≤◌, List, ◌++◌, length, take, refl, sym, ap, ◌∙◌, arith}
+use Rattle.std.proofs.lemmas.List.{length-append, length-take, take-append-le, take-take, take_at}
 
 -- the old bytes still stand in front
 pub keeps_front : (first out more new : List ℕ) → take (length first) out ≡ first → new ≡ out ++ more → take (length first) new ≡ first

@@ -1,5 +1,5 @@
 -- A front that was copied over a buffer is the front of what is left.
-use Rattle.std.proofs.Common.{◌≡◌, ℕ, ◌+◌, ◌-◌, ◌<◌, ◌≤◌, min, List, [], ◌++◌, length, take, drop, arith, length-drop, length-take, sym, ◌∙◌, ap}
+use Rattle.std.proofs.Common.{◌≡◌, ℕ, ◌+◌, ◌<◌, ◌≤◌, min, List, [], ◌++◌, length, take, drop, arith, length-take, sym, ◌∙◌, ap}
 use Rattle.std.proofs.lemmas.List.{take-append-drop, take_at, drop-drop, drop_all}
 
 pub front_moved : (rest into moved : List ℕ) (n : ℕ) → n ≤ length rest → moved ≡ take n rest → rest ≡ take n (moved ++ drop n into) ++ drop n rest

@@ -1,16 +1,16 @@
 -- Bytes as a word, piece by piece.
-use Rattle.std.proofs.Common.{◌≡◌, ℕ, zero, suc, ◌+◌, ◌-◌, ◌*◌, ◌/◌, ◌%◌, ◌^◌, ◌<◌, ◌≤◌, Bool, true, false, not, cond, eqb, ltb, leb, List, [], ◌∷◌, ◌++◌, length, get_or, take, drop, Option, Some, None, Result, Ok, Err, refl, sym, ap, ◌∙◌, arith, rules, append_assoc, subst, inl, inr, ◌⊎◌}
+use Rattle.std.proofs.Common.{◌≡◌, ℕ, suc, ◌+◌, ◌-◌, ◌/◌, ◌%◌, ◌<◌, ◌≤◌, Bool, true, false, not, cond, eqb, List, [], ◌∷◌, ◌++◌, length, get_or, take, drop, Option, Some, None, Result, Ok, Err, refl, sym, ap, ◌∙◌, arith, append_assoc, subst, inl, inr, ◌⊎◌}
 use Rattle.std.specs.Prelude.{◌&&◌, ◌||◌, nat_eq, flat_map, codes, bytes_eq, IfOk}
 use Rattle.std.specs.List.{starts_with}
-use Rattle.std.proofs.lemmas.Bool.{cases_eq, eqb-true, and_parts, ltb-true, ltb-false, lt-ltb, le-ltb}
+use Rattle.std.proofs.lemmas.Bool.{cases_eq, eqb-true, and_parts}
 use Rattle.std.proofs.lemmas.Bool.Decides.{nat_tests}
 use Rattle.std.proofs.lemmas.List.{append-nil, length-drop, take_all}
 use Rattle.std.proofs.lemmas.Slice.Eq.{bytes_eq-Decides}
 use Rattle.artery_base.specs.declared.fault.WordFault.{WordFault}
 use Rattle.artery_base.specs.declared.fault.WordFault.TheVariants as word_faults
-use Rattle.artery_base.specs.Spelling.{AreBytes, hex_digit, hex_pair, is_plain, escaped, word_piece, is_reserved, first_piece, word_text}
-use Rattle.artery_base.specs.Reading.{later, bytes_or_fault, is_hex_digit, hex_value, pair_value, pair_of, is_escape, escape_of, bad_piece, pieces_value, pieces_from, bad_word, word_of, Gives, word_memory}
-use Rattle.artery_base.proofs.HexPairs.{later_later, zero_add, bad_at, when_some, when_none, pair_back, pair_spelled, rest_bytes, if_none, later_none, fault_none, if_text, not_zero}
+use Rattle.artery_base.specs.Spelling.{AreBytes, hex_digit, hex_pair, is_plain, escaped, word_piece, is_reserved, word_text}
+use Rattle.artery_base.specs.Reading.{later, bytes_or_fault, is_hex_digit, pair_value, is_escape, escape_of, bad_piece, pieces_value, pieces_from, bad_word, word_of, Gives, word_memory}
+use Rattle.artery_base.proofs.HexPairs.{later_later, zero_add, bad_at, when_some, when_none, pair_back, pair_spelled, rest_bytes, later_none, fault_none, if_text, not_zero}
 
 -- a plain byte in front
 pub plain_bad : (a : ℕ) (rest : List ℕ) → is_plain a ≡ true → bad_piece (a ∷ rest) ≡ later 1 (bad_piece rest)

@@ -1,5 +1,5 @@
 -- What a text reads as, or its first fault.
-use Rattle.std.specs.Prelude.{◌≡◌, ℕ, ◌+◌, ◌-◌, ◌*◌, ◌^◌, Bool, true, false, not, ◌&&◌, ◌||◌, ◌==◌, nat_lt, if◌then◌else◌, List, [], ◌∷◌, ◌++◌, length, take, drop, codes, slice_index, bytes_eq, nat_eq, position, Option, Some, None, option_map, Result, Ok, Err, ℤ, pos, neg_ℤ}
+use Rattle.std.specs.Prelude.{◌≡◌, ℕ, ◌+◌, ◌-◌, ◌*◌, ◌^◌, Bool, true, false, not, ◌&&◌, ◌||◌, ◌==◌, nat_lt, if◌then◌else◌, List, [], ◌∷◌, ◌++◌, length, take, drop, codes, slice_index, bytes_eq, nat_eq, position, Option, Some, None, Result, Ok, Err, ℤ, pos, neg_ℤ}
 use Rattle.std.specs.Int.{is_in_range}
 use Rattle.std.specs.List.{list_all, starts_with}
 use Rattle.std.specs.Option.{option_or}
@@ -28,10 +28,12 @@ abbrev pub text_memory : TextFault → Bool
 text_memory (text_faults.NotAscii at) = false
 text_memory text_faults.NoMemory = true
 
+-- the same of a word
 abbrev pub word_memory : WordFault → Bool
 word_memory (word_faults.BadWord at) = false
 word_memory word_faults.NoMemory = true
 
+-- the same of an address
 abbrev pub address_memory : AddressFault → Bool
 address_memory address_faults.NoScheme = false
 address_memory address_faults.NoAt = false
@@ -67,16 +69,19 @@ abbrev pub positive_int32 : Option ℕ → Option ℤ
 positive_int32 None = None
 positive_int32 (Some n) = if nat_lt n (2 ^ 31) then Some (pos n) else None
 
+-- the same behind a `-`: from 1 to 2^31, told as its negative
 abbrev pub negative_int32 : Option ℕ → Option ℤ
 negative_int32 None = None
 negative_int32 (Some n) = if is_in_range 1 (2 ^ 31) n then Some (neg_ℤ (pos n)) else None
 
+-- an int32 is a number below 2^31, or `-` and one from 1 to 2^31
 abbrev pub int32_of : List ℕ → Option ℤ
 int32_of [] = None
 int32_of (b ∷ rest) = if b == 45 then negative_int32 (number_of rest) else positive_int32 (number_of (b ∷ rest))
 
 -- ---- ASCII
 
+-- bytes that were looked through: they are ASCII, or the first that is not has this place
 abbrev pub ascii_or_fault : List ℕ → Option ℕ → Result (List ℕ) TextFault
 ascii_or_fault bytes None = Ok bytes
 ascii_or_fault bytes (Some at) = Err (text_faults.NotAscii at)
@@ -91,6 +96,7 @@ ascii_of bytes = ascii_or_fault bytes (position (nat_lt 127) bytes)
 abbrev pub is_hex_digit : ℕ → Bool
 is_hex_digit c = is_in_range 48 57 c || is_in_range 97 102 c
 
+-- the value of a digit: `0` to `9`, then `a` to `f`
 abbrev pub hex_value : ℕ → ℕ
 hex_value c = if nat_lt c 97 then c - 48 else c - 87
 
@@ -114,6 +120,7 @@ pairs_value [] = []
 pairs_value (lone ∷ []) = []
 pairs_value (high ∷ low ∷ rest) = pair_value high low ∷ pairs_value rest
 
+-- bytes that a text spells, unless it has its first fault at this place
 abbrev pub bytes_or_fault : List ℕ → Option ℕ → Result (List ℕ) WordFault
 bytes_or_fault bytes None = Ok bytes
 bytes_or_fault bytes (Some at) = Err (word_faults.BadWord at)
@@ -126,6 +133,7 @@ pairs_from bytes at text = bytes_or_fault (bytes ++ pairs_value text) (later at 
 abbrev pub bad_hex : List ℕ → Option ℕ
 bad_hex text = if length text == 0 then Some 0 else bad_pair text
 
+-- hexadecimal is `-` for no bytes, else at least one pair of digits and nothing but pairs
 abbrev pub hex_of : List ℕ → Result (List ℕ) WordFault
 hex_of text = if bytes_eq text (codes "-") then Ok [] else bytes_or_fault (pairs_value text) (bad_hex text)
 
@@ -170,6 +178,7 @@ bad_word text = if length text == 0 || slice_index text 0 == 64 then Some 0
     else if starts_with nat_eq text (codes "%40") then later 3 (bad_piece (drop 3 text))
     else bad_piece text
 
+-- a word is `-` for no bytes, else pieces that a word writes where they stand
 abbrev pub word_of : List ℕ → Result (List ℕ) WordFault
 word_of text = if bytes_eq text (codes "-") then Ok [] else bytes_or_fault (pieces_value text) (bad_word text)
 
@@ -226,14 +235,17 @@ abbrev pub port_number : Option ℕ → Option ℕ
 port_number None = None
 port_number (Some n) = if is_in_range 1 65535 n then Some n else None
 
+-- the address of four parts, if its port is a number that a port may be
 abbrev pub with_port : Parts → Option ℕ → Result Address AddressFault
 with_port p None = Err address_faults.PortRange
 with_port p (Some n) = Ok (record { protocol = p.protocol; system = p.system; host = p.host; port = n })
 
+-- the first byte that no part may have is told; without one the port decides
 abbrev pub after_chars : Parts → Option ℕ → Result Address AddressFault
 after_chars p (Some at) = Err (address_faults.BadChar at)
 after_chars p None = with_port p (port_number (number_of p.port))
 
+-- the first part of a wrong length is told; without one the bytes decide
 abbrev pub after_lengths : Parts → Option AddressFault → Result Address AddressFault
 after_lengths p (Some fault) = Err fault
 after_lengths p None = after_chars p (bad_char p)
@@ -242,6 +254,7 @@ after_lengths p None = after_chars p (bad_char p)
 abbrev pub address_in : Parts → Result Address AddressFault
 address_in p = after_lengths p (bad_length p)
 
+-- an address is a text with the three separators whose parts are good
 abbrev pub address_of : List ℕ → Result Address AddressFault
 address_of text = parts_of text >>= address_in
 
@@ -250,10 +263,12 @@ abbrev pub last_hash : List ℕ → Option ℕ
 last_hash [] = None
 last_hash (b ∷ rest) = option_or (later 1 (last_hash rest)) (if b == 35 then Some 0 else None)
 
+-- a unique address of the text before the `#`, if a number stands behind it
 abbrev pub with_uid : List ℕ → Option ℕ → Result UniqueAddress AddressFault
 with_uid text None = Err address_faults.NoUid
 with_uid text (Some uid) = address_of text >>= λ a. Ok (record { address = a; uid = uid })
 
+-- a unique address needs a `#`; the last one parts the address from the UID
 abbrev pub split_uid : List ℕ → Option ℕ → Result UniqueAddress AddressFault
 split_uid text None = Err address_faults.NoUid
 split_uid text (Some at) = with_uid (take at text) (number_of (drop (at + 1) text))

@@ -2,8 +2,10 @@
 use Rattle.std.specs.Prelude.{ℕ, ◌+◌, ◌/◌, ◌%◌, ◌^◌, ◌<◌, ◌≤◌, Bool, not, ◌&&◌, ◌||◌, ◌==◌, nat_lt, if◌then◌else◌, IsTrue, List, [], ◌∷◌, ◌++◌, length, codes, decimal, slice_index, flat_map}
 use Rattle.std.specs.Int.{is_in_range}
 use Rattle.std.specs.List.{list_all}
+use Rattle.std.specs.Fmt.{signed_decimal}
 use Rattle.artery_base.specs.declared.address.Address.{Address}
 use Rattle.artery_base.specs.declared.address.UniqueAddress.{UniqueAddress}
+use Rattle.artery_base.specs.declared.message.SysMsg.{SysMsg}
 
 -- each is a byte
 abbrev pub AreBytes : List ℕ → Type 0
@@ -84,3 +86,7 @@ pub record IsUniqueAddress (u : UniqueAddress) : Type 0 where
 -- a unique address: ADDRESS#UID
 abbrev pub unique_text : UniqueAddress → List ℕ
 unique_text u = address_text u.address ++ codes "#" ++ decimal u.uid
+
+-- a system message: its serializer, its manifest as a word, its payload in hexadecimal
+abbrev pub message_text : SysMsg → List ℕ
+message_text m = signed_decimal m.serializer ++ codes " " ++ word_text m.manifest ++ codes " " ++ hex_text m.payload

@@ -21,7 +21,8 @@ impl MemSource {
     /// A source of these bytes. The reads whose numbers are in `failing` fail; reads count from 1.
     pub fn new(bytes: Bytes, failing: Numbers) -> MemSource
         ensures left { drop result.at result.bytes ≡ bytes }
-        ensures faults { result.faults ≡ 0 }
+        ensures failing { result.failing ≡ failing }
+        ensures unread { (result.calls ≡ 0) × (result.faults ≡ 0) }
     {
         MemSource {
             bytes,
@@ -111,7 +112,8 @@ impl MemSink {
     /// from 1. A write for which there is no memory fails too.
     pub fn new(alloc: Global, failing: Numbers) -> MemSink
         ensures held { result.bytes ≡ [] }
-        ensures faults { result.faults ≡ 0 }
+        ensures failing { result.failing ≡ failing }
+        ensures unwritten { (result.calls ≡ 0) × (result.faults ≡ 0) }
     {
         MemSink {
             bytes: Bytes::new(alloc),

@@ -23,9 +23,9 @@ pub trait Sink {
         ensures cause { HasCause (faults self.old) (faults self.new) result };
 }
 
-#[tactic(auto, using(crate::proofs::WrittenLemmas::takes_nothing, crate::proofs::WrittenLemmas::takes_more, crate::proofs::WrittenLemmas::front_taken, crate::proofs::WrittenLemmas::all_taken))]
 /// Writes all of `piece`, however many bytes the sink takes at a time. At `Failed` the sink has
 /// taken a front of it.
+#[tactic(auto, using(crate::proofs::WrittenLemmas::takes_nothing, crate::proofs::WrittenLemmas::takes_more, crate::proofs::WrittenLemmas::front_taken, crate::proofs::WrittenLemmas::all_taken))]
 pub fn write_all<K: Sink>(sink: &mut K, piece: &[u8]) -> Result<(), Failed>
     ensures all { OnOk result (Appends (K.held sink.old) (K.held sink.new) piece.now) }
     ensures front { TakesFront (K.held sink.old) (K.held sink.new) piece.now }

@@ -7,7 +7,6 @@ ghost use Rattle.artery_base.specs.Spelling.{AreBytes, IsToken, hex_text, word_t
 ghost use Rattle.artery_base.specs.Reading.{number_of, int32_of, hex_of, word_of, address_of, unique_of};
 
 /// A law, with no code: the spelling of each value reads as that value.
-
 pub fn spellings_are_read()
     ensures numbers { (n : ℕ) → n < 2 ^ 64 → number_of (decimal n) ≡ Some n }
     ensures int32s { (z : ℤ) → FitsSigned w32 z → int32_of (signed_decimal z) ≡ Some z }
@@ -18,7 +17,6 @@ pub fn spellings_are_read()
 {}
 
 /// A law, with no code: a text that reads as a value is that value's spelling.
-
 pub fn readings_are_spelled()
     ensures numbers { (text : List ℕ) (n : ℕ) → number_of text ≡ Some n → (n < 2 ^ 64) × (text ≡ decimal n) }
     ensures int32s { (text : List ℕ) (z : ℤ) → int32_of text ≡ Some z → FitsSigned w32 z × (text ≡ signed_decimal z) }
@@ -29,7 +27,6 @@ pub fn readings_are_spelled()
 {}
 
 /// A law, with no code: each spelling is one token, not empty and of visible ASCII bytes alone.
-
 pub fn spellings_are_tokens()
     ensures numbers { (n : ℕ) → n < 2 ^ 64 → IsToken (decimal n) }
     ensures int32s { (z : ℤ) → FitsSigned w32 z → IsToken (signed_decimal z) }

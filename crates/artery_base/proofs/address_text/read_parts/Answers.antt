@@ -1,4 +1,4 @@
-use Rattle.std.proofs.Common.{◌≡◌, ◌∙◌, sym, ap, None, rules}
+use Rattle.std.proofs.Common.{◌≡◌, ap, None, rules}
 use Rattle.artery_base.specs.Reading.{Parts, bad_char}
 use Rattle.artery_base.proofs.AddressParts.{chars_good, part_ascii}
 use Rattle.artery_base.proofs.address_text.read_parts.Goals as goal

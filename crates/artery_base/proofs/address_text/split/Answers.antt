@@ -1,4 +1,4 @@
-use Rattle.std.proofs.Common.{◌≡◌, ◌∙◌, sym, None, Some, rules, eqb}
+use Rattle.std.proofs.Common.{◌≡◌, ◌∙◌, sym, None, rules, eqb}
 use Rattle.std.specs.Prelude.{position}
 use Rattle.artery_base.proofs.AddressParts.{split_fails, split_done}
 use Rattle.artery_base.proofs.address_text.split.Goals as goal

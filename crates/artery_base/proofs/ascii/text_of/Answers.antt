@@ -1,4 +1,4 @@
-use Rattle.std.proofs.Common.{◌≡◌, ◌∙◌, sym}
+use Rattle.std.proofs.Common.{◌∙◌, sym}
 use Rattle.artery_base.proofs.Places.{high_not_ascii}
 use Rattle.artery_base.proofs.ascii.text_of.Goals as goal
 

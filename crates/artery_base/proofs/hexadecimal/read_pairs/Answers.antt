@@ -1,5 +1,5 @@
-use Rattle.std.proofs.Common.{◌≡◌, ◌∙◌, ◌+◌, ◌-◌, ◌<◌, length, get_or, drop, Some, sym, arith, length-drop, length-take}
-use Rattle.artery_base.specs.Reading.{pair_of, pairs_from}
+use Rattle.std.proofs.Common.{◌≡◌, ◌∙◌, ◌-◌, ◌<◌, length, get_or, drop, Some, sym, arith, length-drop, length-take}
+use Rattle.artery_base.specs.Reading.{pair_of}
 use Rattle.artery_base.proofs.HexPairs.{read_on}
 use Rattle.artery_base.proofs.hexadecimal.read_pairs.Goals as goal
 

@@ -1,4 +1,4 @@
-use Rattle.std.proofs.Common.{rules, ◌≡◌, ◌∙◌, sym, true}
+use Rattle.std.proofs.Common.{rules, ◌≡◌, ◌∙◌, true}
 use Rattle.artery_base.specs.Reading.{is_numeral}
 use Rattle.artery_base.proofs.Decimals.{numeral_utf8, parsed_numeral}
 use Rattle.artery_base.proofs.number.number_in.Goals as goal

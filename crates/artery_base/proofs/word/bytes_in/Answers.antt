@@ -1,4 +1,4 @@
-use Rattle.std.proofs.Common.{◌≡◌, ◌∙◌, sym, rules, [], ◌∷◌, length, get_or, take, drop, true, false, eqb, arith, length-drop}
+use Rattle.std.proofs.Common.{◌≡◌, rules, [], ◌∷◌, length, get_or, take, drop, true, false, eqb, arith, length-drop}
 use Rattle.std.specs.Prelude.{codes, bytes_eq, nat_eq, ◌-◌}
 use Rattle.std.specs.List.{starts_with}
 use Rattle.std.proofs.lemmas.List.{take_all}

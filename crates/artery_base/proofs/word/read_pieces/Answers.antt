@@ -1,7 +1,7 @@
-use Rattle.std.proofs.Common.{◌≡◌, ◌∙◌, ◌+◌, ◌-◌, ◌<◌, ◌≤◌, length, get_or, drop, Some, true, sym, arith, length-drop, length-take}
+use Rattle.std.proofs.Common.{◌≡◌, ◌∙◌, ◌-◌, ◌<◌, length, get_or, drop, Some, true, sym, arith, length-drop, length-take}
 use Rattle.std.proofs.lemmas.Bool.Decides.{nat_tests}
 use Rattle.artery_base.specs.Spelling.{is_plain}
-use Rattle.artery_base.specs.Reading.{escape_of, pieces_from}
+use Rattle.artery_base.specs.Reading.{escape_of}
 use Rattle.artery_base.proofs.WordPieces.{plain_on, escape_on, escape_long}
 use Rattle.artery_base.proofs.word.read_pieces.Goals as goal
 
