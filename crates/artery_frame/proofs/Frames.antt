@@ -103,6 +103,11 @@ are_frames (suc n) bytes = by_front (λ bytes. are_frames n bytes) (front_of byt
   by_front are (Err fault) e = rw (frames_at n bytes (Err fault) e) tt
   by_front are (Ok (Some frame)) e = rw (frames_at n bytes (Ok (Some frame)) e) (begins_front frame bytes e, are (drop (4 + length frame) bytes))
 
+-- and stay so, whatever follows
+pub frames_stay : (frames : List (List ℕ)) (bytes more : List ℕ) → AreFrames frames bytes → AreFrames frames (bytes ++ more)
+frames_stay [] bytes more a = tt
+frames_stay (f ∷ fs) bytes more a = (begins_stays f bytes more a.0, rw (drop-append-le (4 + length f) bytes more a.0.whole) (frames_stay fs (drop (4 + length f) bytes) more a.1))
+
 -- and no others are
 pub only_frames : (n : ℕ) (bytes : List ℕ) (frames : List (List ℕ)) (end : Option FrameFault) → length bytes ≤ n → AreFrames frames bytes → Ends (drop (span frames) bytes) end
     → frames ≡ frames_in n bytes

@@ -71,6 +71,13 @@ number_stays : (bytes more : List ℕ) → 4 ≤ length bytes → little_number 
 number_stays bytes more h =
     rw (get_or_append_left bytes more 0 0 (omega arith), get_or_append_left bytes more 0 1 (omega arith), get_or_append_left bytes more 0 2 (omega arith), get_or_append_left bytes more 0 3 (omega arith)) refl
 
+-- so does too long a length
+pub long_stays : (rest more : List ℕ) (end : Option FrameFault) (fault : FrameFault) → end ≡ Some fault → Ends rest end → Ends (rest ++ more) end
+long_stays rest more None fault e h = absurd (cc)
+long_stays rest more (Some (TooLong len)) fault e h = (omega (arith, h.0, length-append rest more), number_stays rest more h.0 ∙ h.1, h.2)
+long_stays rest more (Some (BadMagic at)) fault e h = h
+long_stays rest more (Some (BadStream id)) fault e h = h
+
 -- a frame at the front stays, whatever follows
 pub begins_stays : (frame bytes more : List ℕ) → BeginsWith frame bytes → BeginsWith frame (bytes ++ more)
 begins_stays frame bytes more b = record {

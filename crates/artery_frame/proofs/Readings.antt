@@ -1,6 +1,7 @@
--- Every list of bytes has one reading, and a longer one keeps its frames.
+-- Every list of bytes has one reading, and a longer one keeps what it tells.
 use Rattle.std.proofs.Common.{◌≡◌, ℕ, ◌+◌, ◌≤◌, List, [], ◌∷◌, ◌++◌, length, take, drop, refl, sym, ap, subst, ◌∙◌, arith, Option, Some, None, Result, Ok, Err, length-drop, length-append, append_assoc}
 use Rattle.std.proofs.lemmas.List.{take-append-drop, take_at, drop_at, drop-drop, drop-append-le}
+use Rattle.std.specs.Prelude.{IfSome}
 use Rattle.std.specs.List.{flat_map, AllByRecursion}
 use Rattle.byteorder.specs.Endian.{little_bytes, little_number}
 use Rattle.byteorder.specs.Numbers.{little_number-reads_back}
@@ -8,10 +9,10 @@ use Rattle.artery_frame.specs.declared.stream.Stream.{Stream}
 use Rattle.artery_frame.specs.declared.stream.Stream.TheVariants.{Control, Ordinary}
 use Rattle.artery_frame.specs.declared.fault.FrameFault.{FrameFault}
 use Rattle.artery_frame.specs.declared.fault.FrameFault.TheVariants.{BadMagic, BadStream, TooLong}
-use Rattle.artery_frame.specs.Stream.{Reading, IsReading, IsReadingBy, HasNoId, HasFrames, reading_of, reading_by, framed_reading, preamble_of, KeepsFrames, BeginsWith, AreFrames, Ends, preamble, framed, IsShort, whole_reading, front_of, frames_in, span}
-use Rattle.artery_frame.proofs.Fronts.{front_says, front_ends}
-use Rattle.artery_frame.proofs.Frames.{are_frames, only_frames, frames_end, first_stay, all_first}
-use Rattle.artery_frame.proofs.Preambles.{Tells, preamble_tells, preamble_none, preamble_made, preamble_magic, preamble_stream, preamble_stays, preamble_len}
+use Rattle.artery_frame.specs.Stream.{Reading, IsReading, IsReadingBy, HasNoId, HasFrames, reading_of, reading_by, framed_reading, preamble_of, GoesOn, BeginsWith, AreFrames, Ends, preamble, framed, IsShort, whole_reading, front_of, frames_in, span}
+use Rattle.artery_frame.proofs.Fronts.{front_says, front_ends, long_stays}
+use Rattle.artery_frame.proofs.Frames.{are_frames, frames_stay, only_frames, span_within, frames_end, first_stay, all_first}
+use Rattle.artery_frame.proofs.Preambles.{Tells, preamble_tells, preamble_none, preamble_made, preamble_magic, preamble_stream, preamble_stays, preamble_whole, fault_stays, preamble_len}
 
 -- the reading, where the preamble is known
 pub reading_at : (bytes : List ℕ) (p : Result (Option Stream) FrameFault) → preamble_of bytes ≡ p → reading_of bytes ≡ reading_by bytes p
@@ -60,21 +61,43 @@ only_by bytes (Some stream) frames offset end h = has_frames bytes stream frames
 pub only_reading : (bytes : List ℕ) (r : Reading) → IsReading bytes r → r ≡ reading_of bytes
 only_reading bytes r h = only_by bytes r.stream r.frames r.offset r.end h
 
-longer_by : (bytes more : List ℕ) (p : Result (Option Stream) FrameFault) → preamble_of bytes ≡ p → KeepsFrames (reading_by bytes p) (reading_of (bytes ++ more))
-longer_by bytes more (Ok None) e = ((reading_of (bytes ++ more)).frames, refl)
-longer_by bytes more (Err fault) e = ((reading_of (bytes ++ more)).frames, refl)
+-- what has a fault behind its frames keeps it
+fault_stays_by : (bytes more : List ℕ) (stream : Stream) → preamble_of bytes ≡ Ok (Some stream) → (end : Option FrameFault) → (reading_by bytes (Ok (Some stream))).end ≡ end
+    → IfSome end (λ _. reading_of (bytes ++ more) ≡ reading_by bytes (Ok (Some stream)))
+fault_stays_by bytes more stream e None f = tt
+fault_stays_by bytes more stream e (Some fault) f =
+    let again = preamble_whole (bytes ++ more) stream (preamble_stays bytes more stream e) in
+    let cut : drop 5 (bytes ++ more) ≡ drop 5 bytes ++ more = drop-append-le 5 bytes more (preamble_len bytes stream e) in
+    let frames = frames_in (length bytes) (drop 5 bytes) in
+    let behind : drop (span frames) (drop 5 bytes ++ more) ≡ drop (span frames) (drop 5 bytes) ++ more
+    = drop-append-le (span frames) (drop 5 bytes) more (span_within (length bytes) (drop 5 bytes) frames (all_first frames)) in
+    let are : AreFrames frames (drop 5 (bytes ++ more)) = rw cut (frames_stay frames (drop 5 bytes) more (are_frames (length bytes) (drop 5 bytes))) in
+    let ends = long_stays (drop (span frames) (drop 5 bytes)) more _ fault f (frames_end (length bytes) (drop 5 bytes) (fits_behind bytes 5)) in
+    sym (only_reading (bytes ++ more) (reading_by bytes (Ok (Some stream))) (again.0, again.1, are, rw cut (rw behind ends), refl))
+
+longer_by : (bytes more : List ℕ) (p : Result (Option Stream) FrameFault) → preamble_of bytes ≡ p → GoesOn (reading_by bytes p) (reading_of (bytes ++ more))
+longer_by bytes more (Ok None) e = record { stream = tt; frames = ((reading_of (bytes ++ more)).frames, refl); fault = tt }
+longer_by bytes more (Err fault) e = record {
+  stream = tt;
+  frames = ((reading_of (bytes ++ more)).frames, refl);
+  fault = reading_at (bytes ++ more) (Err fault) (fault_stays bytes more fault e);
+}
 longer_by bytes more (Ok (Some stream)) e =
     let w = reading_at (bytes ++ more) (Ok (Some stream)) (preamble_stays bytes more stream e) in
     let cut : drop 5 (bytes ++ more) ≡ drop 5 bytes ++ more = drop-append-le 5 bytes more (preamble_len bytes stream e) in
     let frames = frames_in (length bytes) (drop 5 bytes) in
     let all = frames_in (length (bytes ++ more)) (drop 5 bytes ++ more) in
     let stay : frames ≡ take (length frames) all = first_stay (length bytes) (length (bytes ++ more)) (drop 5 bytes) more frames (rw (← cut) (fits_behind (bytes ++ more) 5)) (all_first frames) in
-    (drop (length frames) all, ap (λ (r : Reading). r.frames) w ∙ ap (frames_in (length (bytes ++ more))) cut ∙ sym (ap (λ (fs : List (List ℕ)). fs ++ drop (length frames) all) stay ∙ take-append-drop (length frames) all))
+    record {
+      stream = ap (λ (r : Reading). r.stream) w;
+      frames = (drop (length frames) all, ap (λ (r : Reading). r.frames) w ∙ ap (frames_in (length (bytes ++ more))) cut ∙ sym (ap (λ (fs : List (List ℕ)). fs ++ drop (length frames) all) stay ∙ take-append-drop (length frames) all));
+      fault = fault_stays_by bytes more stream e _ refl;
+    }
 
 -- what was read stays, whatever follows
-pub longer_reading : (bytes more : List ℕ) → KeepsFrames (reading_of bytes) (reading_of (bytes ++ more))
+pub longer_reading : (bytes more : List ℕ) → GoesOn (reading_of bytes) (reading_of (bytes ++ more))
 longer_reading bytes more =
-    let P : Reading → Type 0 = λ r. KeepsFrames r (reading_of (bytes ++ more)) in
+    let P : Reading → Type 0 = λ r. GoesOn r (reading_of (bytes ++ more)) in
     subst P (sym (reading_at bytes (preamble_of bytes) refl)) (longer_by bytes more (preamble_of bytes) refl)
 
 -- a frame that was written stands at the front

@@ -1,5 +1,5 @@
 -- The reading of a stream: what it carries, its frames, and how it ends.
-use Rattle.std.specs.Prelude.{◌≡◌, ◌≢◌, ℕ, zero, suc, ◌+◌, ◌<◌, ◌≤◌, ◌==◌, nat_lt, if◌then◌else◌, List, [], ◌∷◌, ◌++◌, length, take, drop, slice_get, codes, Option, Some, None, Result, Ok, Err}
+use Rattle.std.specs.Prelude.{◌≡◌, ◌≢◌, ℕ, zero, suc, ◌+◌, ◌<◌, ◌≤◌, ◌==◌, nat_lt, if◌then◌else◌, List, [], ◌∷◌, ◌++◌, length, take, drop, slice_get, codes, Option, Some, None, IfSome, Result, Ok, Err}
 use Rattle.byteorder.specs.Endian.{little_number, little_bytes}
 use Rattle.artery_frame.specs.declared.stream.Stream.{Stream}
 use Rattle.artery_frame.specs.declared.stream.Stream.TheVariants.{Control, Ordinary}
@@ -133,9 +133,11 @@ reading_by bytes (Ok (Some stream)) = framed_reading stream (drop 5 bytes) (fram
 unfoldable pub reading_of : List ℕ → Reading
 reading_of bytes = reading_by bytes (preamble_of bytes)
 
--- The other reading has these frames first.
-abbrev pub KeepsFrames : Reading → Reading → Type 0
-KeepsFrames r other = (more : List (List ℕ)) × (other.frames ≡ r.frames ++ more)
+-- More bytes keep what a reading tells: its stream once it is known, its frames, and all of it once it has a fault.
+pub record GoesOn (r other : Reading) : Type 0 where
+  pub stream : IfSome r.stream (λ stream. other.stream ≡ Some stream)
+  pub frames : (more : List (List ℕ)) × (other.frames ≡ r.frames ++ more)
+  pub fault : IfSome r.end (λ _. other ≡ r)
 
 -- What is written before the first frame.
 abbrev pub preamble : Stream → List ℕ
