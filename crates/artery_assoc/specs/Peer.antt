@@ -49,6 +49,7 @@ peer_after_learn Same uid p = p
 peer_after_learn WasClosed uid p = p
 peer_after_learn ClosedFull uid p = p
 
+-- The peer after it was told a UID.
 abbrev pub peer_learnt : ℕ → PeerState → PeerState
 peer_learnt uid p = peer_after_learn (learning uid p) uid p
 
@@ -62,6 +63,7 @@ peer_after_close Closed uid p = record p { current = None; closed = p.closed ++ 
 peer_after_close AlreadyClosed uid p = p
 peer_after_close NotCurrent uid p = p
 
+-- The peer after it was told to close a UID.
 abbrev pub peer_closed : ℕ → PeerState → PeerState
 peer_closed uid p = peer_after_close (closing uid p) uid p
 

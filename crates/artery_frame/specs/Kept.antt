@@ -30,10 +30,12 @@ after_preamble k (Ok (Some stream)) = record k { rest = drop 5 k.rest; place = 5
 after_preamble k (Ok None) = k
 after_preamble k (Err fault) = k
 
+-- A preamble is looked for only as long as no id is known.
 abbrev pub settled_by : Kept → Option Stream → Kept
 settled_by k None = after_preamble k (preamble_of k.rest)
 settled_by k (Some stream) = k
 
+-- What is kept once the preamble is given out, where it is whole.
 abbrev pub settled : Kept → Kept
 settled k = settled_by k k.stream
 
@@ -41,16 +43,18 @@ settled k = settled_by k k.stream
 abbrev pub kept_fed : List ℕ → Kept → Kept
 kept_fed piece k = settled (record k { rest = k.rest ++ piece })
 
--- What a call of `next` answers: the fault that was answered before, else what stands at the front.
+-- Before the preamble is whole there is no frame to answer, but its fault is answered.
 abbrev pub preamble_answer : Result (Option Stream) FrameFault → Result (Option (List ℕ)) FrameFault
 preamble_answer (Ok stream) = Ok None
 preamble_answer (Err fault) = Err fault
 
+-- The fault that was answered before is answered again; else what the preamble says as long as no id is known, and then what stands at the front.
 abbrev pub answer_by : Option FrameFault → Option Stream → List ℕ → Result (Option (List ℕ)) FrameFault
 answer_by (Some fault) stream rest = Err fault
 answer_by None None rest = preamble_answer (preamble_of rest)
 answer_by None (Some stream) rest = front_of rest
 
+-- What a call of `next` answers.
 abbrev pub kept_answer : Kept → Result (Option (List ℕ)) FrameFault
 kept_answer k = answer_by k.fault k.stream k.rest
 
@@ -60,16 +64,18 @@ fault_place (BadMagic at) place = at
 fault_place (BadStream id) place = 4
 fault_place (TooLong len) place = place
 
--- What that call leaves: without the frame that it gave, and with the fault that it answered.
+-- What an answer leaves: all but the frame that it gives, and the fault that it tells, with its place.
 abbrev pub given_by : Kept → Result (Option (List ℕ)) FrameFault → Kept
 given_by k (Ok (Some frame)) = record k { rest = drop (4 + length frame) k.rest; place = told (k.place + (4 + length frame)) }
 given_by k (Ok None) = k
 given_by k (Err fault) = record k { fault = Some fault; place = fault_place fault k.place }
 
+-- Once a fault was answered, what is kept stays as it is.
 abbrev pub unless_broken : Option FrameFault → Kept → Kept → Kept
 unless_broken (Some fault) k next = k
 unless_broken None k next = next
 
+-- What a call of `next` leaves.
 abbrev pub kept_given : Kept → Kept
 kept_given k = unless_broken k.fault k (given_by k (kept_answer k))
 

@@ -28,6 +28,7 @@ pub record StandsBy (k : Kept) (r : Reading) (fed : List ℕ) (given : List (Lis
   pub place : k.place ≡ told (place_after k.fault r given)
   pub fault : HasEnded k.fault r given
 
+-- What is kept stands for the bytes that were fed, by their one reading, and for the frames that were given.
 abbrev pub Stands : Kept → List ℕ → List (List ℕ) → Type 0
 Stands k fed given = StandsBy k (reading_of fed) fed given
 
@@ -37,6 +38,7 @@ after_all end (Some frame) = Ok (Some frame)
 after_all None None = Ok None
 after_all (Some fault) None = Err fault
 
+-- The next answer after these frames: the frame of the reading whose number is theirs, or what comes after all.
 abbrev pub next_of : Reading → List (List ℕ) → Result (Option (List ℕ)) FrameFault
 next_of r given = after_all r.end (slice_get r.frames (length given))
 

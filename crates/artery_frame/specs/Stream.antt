@@ -71,6 +71,7 @@ HasFrames bytes stream frames offset end =
     (mismatch 0 magic bytes ≡ None) × (slice_get bytes 4 ≡ Some (id_of stream)) × AreFrames frames (drop 5 bytes)
     × Ends (drop (span frames) (drop 5 bytes)) end × (offset ≡ 5 + span frames)
 
+-- Bytes of which no id is known have no frames; the others have the id, the frames, and what ends so.
 abbrev pub IsReadingBy : List ℕ → Option Stream → List (List ℕ) → ℕ → Option FrameFault → Type 0
 IsReadingBy bytes None frames offset end = (frames ≡ []) × HasNoId bytes offset end
 IsReadingBy bytes (Some stream) frames offset end = HasFrames bytes stream frames offset end
@@ -85,6 +86,7 @@ preamble_by (Some at) id = Err (BadMagic at)
 preamble_by None None = Ok None
 preamble_by None (Some id) = if id == 1 then Ok (Some Control) else if id == 2 then Ok (Some Ordinary) else Err (BadStream id)
 
+-- The first byte that differs from `AKKA` is the fault; else the fifth byte says what the stream carries.
 unfoldable pub preamble_of : List ℕ → Result (Option Stream) FrameFault
 preamble_of bytes = preamble_by (mismatch 0 magic bytes) (slice_get bytes 4)
 
@@ -92,9 +94,11 @@ preamble_of bytes = preamble_by (mismatch 0 magic bytes) (slice_get bytes 4)
 abbrev pub front_by : ℕ → List ℕ → Result (Option (List ℕ)) FrameFault
 front_by len more = if nat_lt frame_limit len then Err (TooLong len) else if nat_lt (length more) len then Ok None else Ok (Some (take len more))
 
+-- Fewer than four bytes hold no frame; four spell the length of what follows, the lowest first.
 unfoldable pub front_of : List ℕ → Result (Option (List ℕ)) FrameFault
 front_of bytes = if nat_lt (length bytes) 4 then Ok None else front_by (little_number 4 bytes) (drop 4 bytes)
 
+-- A frame at the front comes first, and then the others of the bytes behind it; else there is none.
 abbrev pub frames_by : (List ℕ → List (List ℕ)) → List ℕ → Result (Option (List ℕ)) FrameFault → List (List ℕ)
 frames_by others bytes (Ok (Some frame)) = frame ∷ others (drop (4 + length frame) bytes)
 frames_by others bytes (Ok None) = []
@@ -116,6 +120,7 @@ place_of (BadMagic at) = at
 place_of (BadStream id) = 4
 place_of (TooLong len) = 0
 
+-- The reading of a stream whose id is known, with these bytes and frames behind it: it ends where the frames end, with the fault that stands there.
 abbrev pub framed_reading : Stream → List ℕ → List (List ℕ) → Reading
 framed_reading stream bytes frames = record {
   stream = Some stream;
@@ -124,6 +129,7 @@ framed_reading stream bytes frames = record {
   end = fault_of (front_of (drop (span frames) bytes));
 }
 
+-- The reading, where the first bytes tell this: a fault at its place, nothing yet, or a stream and its frames.
 abbrev pub reading_by : List ℕ → Result (Option Stream) FrameFault → Reading
 reading_by bytes (Err fault) = record { stream = None; frames = []; offset = place_of fault; end = Some fault }
 reading_by bytes (Ok None) = record { stream = None; frames = []; offset = 0; end = None }

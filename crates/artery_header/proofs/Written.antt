@@ -7,7 +7,7 @@ use Rattle.std.specs.Int.{cast_signed, cast_unsigned, w32}
 use Rattle.byteorder.specs.Endian.{little_bytes, little_number}
 use Rattle.byteorder.specs.Numbers.{little_number-reads_back}
 use Rattle.artery_header.specs.declared.fault.EncodeFault.{EncodeFault}
-use Rattle.artery_header.specs.Envelope.{Named, Text, Number, Contents, IsLaidOut, HasTag, AreTexts, IsName, IsEnvelope, HasTexts, IsAsciiName, header, header_len, first_index_tag, tag_of, recipient_at, manifest_at, spelled, spelled_len, canonical, refusal, is_long, literal_limit, read_of}
+use Rattle.artery_header.specs.Envelope.{Named, Text, Number, Contents, IsLaidOut, HasTag, AreTexts, IsName, IsEnvelope, HasTexts, IsAsciiName, numbers, tags, header, header_len, first_index_tag, tag_of, recipient_at, manifest_at, spelled, spelled_len, canonical, refusal, is_long, literal_limit, read_of}
 use Rattle.artery_header.proofs.Layouts.{laid_out_read}
 
 -- a name that is not too long stands in front of what follows
@@ -56,7 +56,7 @@ unsigned_fits : (z : ℤ) → FitsSigned w32 z → cast_unsigned w32 z < 4294967
 unsigned_fits z f = omega (arith, ints)
 
 canonical_laid_out : (c : Contents) → IsEnvelope c → HasTexts c → (is_long c.sender ≡ false) × (is_long c.recipient ≡ false) × (is_long c.manifest ≡ false) → IsLaidOut (canonical c) c
-unfolding header
+unfolding numbers tags
 canonical_laid_out c v t s =
     let at_recipient : recipient_at c < first_index_tag = omega (arith, small_name c.sender s.0) in
     let at_manifest : manifest_at c < first_index_tag = omega (arith, small_name c.sender s.0, small_name c.recipient s.1) in

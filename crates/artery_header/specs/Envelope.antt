@@ -30,10 +30,12 @@ pub record Contents : Type 0 where
   pub manifest : Named
   pub payload : List ℕ
 
+-- The name, without where its text lies.
 abbrev pub named : Name → Named
 named (Literal text) = Text text.now
 named (Index i) = Number i
 
+-- The envelope, without where its texts and its payload lie.
 abbrev pub contents : Envelope → Contents
 contents e = record {
   uid = e.uid;
@@ -104,6 +106,7 @@ text_by which len more =
     else if is_text (take len more) then Ok (Text (take len more), drop len more)
     else Err (NotAscii which)
 
+-- Two bytes spell the length of the text at the front, the lowest first; where they are not there, the text goes past the end.
 unfoldable pub text_at : Which → List ℕ → Result (Named × List ℕ) HeaderFault
 text_at which bytes = if nat_lt (length bytes) 2 then Err (LiteralPast which) else text_by which (little_number 2 bytes) (drop 2 bytes)
 
@@ -156,21 +159,31 @@ abbrev pub tag_of : ℕ → Named → ℕ
 tag_of at (Text text) = at
 tag_of at (Number i) = 4278190080 + i
 
--- The texts of an envelope, and where they stand.
+-- The recipient's text stands behind the header and the sender's.
 abbrev pub recipient_at : Contents → ℕ
 recipient_at c = header_len + spelled_len c.sender
 
+-- The manifest's text stands behind the recipient's.
 abbrev pub manifest_at : Contents → ℕ
 manifest_at c = recipient_at c + spelled_len c.recipient
 
+-- The payload stands behind the manifest's text.
 abbrev pub payload_at : Contents → ℕ
 payload_at c = manifest_at c + spelled_len c.manifest
 
--- The 28 bytes of the header.
-unfoldable pub header : Contents → List ℕ
-header c =
+-- The first 16 bytes of the header: two zeros, the versions of the tables, the UID and the serializer.
+unfoldable pub numbers : Contents → List ℕ
+numbers c =
     (0 ∷ 0 ∷ c.refs_version ∷ c.manifests_version ∷ []) ++ little_bytes 8 c.uid ++ little_bytes 4 (cast_unsigned w32 c.serializer)
-    ++ little_bytes 4 (tag_of header_len c.sender) ++ little_bytes 4 (tag_of (recipient_at c) c.recipient) ++ little_bytes 4 (tag_of (manifest_at c) c.manifest)
+
+-- The other 12: the tags of the three names.
+unfoldable pub tags : Contents → List ℕ
+tags c =
+    little_bytes 4 (tag_of header_len c.sender) ++ little_bytes 4 (tag_of (recipient_at c) c.recipient) ++ little_bytes 4 (tag_of (manifest_at c) c.manifest)
+
+-- The 28 bytes of the header.
+abbrev pub header : Contents → List ℕ
+header c = numbers c ++ tags c
 
 -- The one canonical spelling of an envelope.
 abbrev pub canonical : Contents → List ℕ
@@ -180,14 +193,15 @@ canonical c = header c ++ spelled c.sender ++ spelled c.recipient ++ spelled c.m
 abbrev pub canonical_len : Contents → ℕ
 canonical_len c = payload_at c + length c.payload
 
--- The most bytes of a literal, and of an envelope.
+-- The most bytes of a literal.
 abbrev pub literal_limit : ℕ
 literal_limit = 65535
 
+-- The most bytes of an envelope.
 abbrev pub envelope_limit : ℕ
 envelope_limit = 262144
 
--- The text fits into its two bytes of length.
+-- The text has more bytes than its two bytes of length can say.
 abbrev pub is_long : Named → Bool
 is_long (Text text) = nat_lt literal_limit (length text)
 is_long (Number i) = false

@@ -1,5 +1,5 @@
 ghost use Rattle.std.specs.Prelude.{◌≡◌, ◌+◌, ◌*◌, ◌^◌, ◌<◌, ◌≤◌, ◌++◌, false, length, take, IsOkUnless, IfSome, None, Err, OnOk, OnErr};
-ghost use Rattle.artery_header.specs.Envelope.{contents, named, canonical, canonical_len, refusal, HasTexts, spelled, spelled_len, tag_of, is_long, header, IsFrontOf};
+ghost use Rattle.artery_header.specs.Envelope.{contents, named, canonical, canonical_len, refusal, HasTexts, spelled, spelled_len, tag_of, is_long, numbers, tags, IsFrontOf};
 ghost use Rattle.std.specs.Int.{cast_unsigned, w32};
 ghost use Rattle.byteorder.specs.Endian.{little_bytes};
 
@@ -126,19 +126,12 @@ fn serializer_of(envelope: &Envelope<'_>) -> [u8; 4]
     envelope.serializer.to_le_bytes()
 }
 
-/// The header.
-fn header_of(envelope: &Envelope<'_>) -> [u8; 28]
-    requires sender { is_long (named envelope.now.sender) ≡ false }
-    requires recipient { is_long (named envelope.now.recipient) ≡ false }
-    ensures { result ≡ header (contents envelope.now) }
+/// The first 16 bytes of the header.
+fn numbers_of(envelope: &Envelope<'_>) -> [u8; 16]
+    ensures { result ≡ numbers (contents envelope.now) }
 {
-    let recipient_at = HEADER_LEN + spelled_len(&envelope.sender);
-    let manifest_at = recipient_at + spelled_len(&envelope.recipient);
     let uid = envelope.uid.to_le_bytes();
     let serializer = serializer_of(envelope);
-    let sender = tag_of(&envelope.sender, HEADER_LEN).to_le_bytes();
-    let recipient = tag_of(&envelope.recipient, recipient_at).to_le_bytes();
-    let manifest = tag_of(&envelope.manifest, manifest_at).to_le_bytes();
     [
         0,
         0,
@@ -156,6 +149,21 @@ fn header_of(envelope: &Envelope<'_>) -> [u8; 28]
         serializer[1],
         serializer[2],
         serializer[3],
+    ]
+}
+
+/// The other 12 bytes of the header, which are the tags of the names.
+fn tags_of(envelope: &Envelope<'_>) -> [u8; 12]
+    requires sender { is_long (named envelope.now.sender) ≡ false }
+    requires recipient { is_long (named envelope.now.recipient) ≡ false }
+    ensures { result ≡ tags (contents envelope.now) }
+{
+    let recipient_at = HEADER_LEN + spelled_len(&envelope.sender);
+    let manifest_at = recipient_at + spelled_len(&envelope.recipient);
+    let sender = tag_of(&envelope.sender, HEADER_LEN).to_le_bytes();
+    let recipient = tag_of(&envelope.recipient, recipient_at).to_le_bytes();
+    let manifest = tag_of(&envelope.manifest, manifest_at).to_le_bytes();
+    [
         sender[0],
         sender[1],
         sender[2],
@@ -180,7 +188,8 @@ fn append_parts(envelope: &Envelope<'_>, out: &mut Bytes) -> Result<(), NoMemory
     ensures ok { OnOk result (out.new ≡ out.old ++ canonical (contents envelope.now)) }
     ensures err { OnErr result (IsFrontOf out.old out.new) }
 {
-    out.extend_from_slice(&header_of(envelope))?;
+    out.extend_from_slice(&numbers_of(envelope))?;
+    out.extend_from_slice(&tags_of(envelope))?;
     append_name(&envelope.sender, out)?;
     append_name(&envelope.recipient, out)?;
     append_name(&envelope.manifest, out)?;

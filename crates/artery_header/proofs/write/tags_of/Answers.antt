@@ -1,8 +1,8 @@
 use Rattle.std.proofs.Common.{ℕ, ◌+◌, ap, ◌∙◌}
 use Rattle.byteorder.specs.Endian.{little_bytes}
 use Rattle.artery_header.specs.Envelope.{contents, named, spelled_len, tag_of}
-use Rattle.artery_header.proofs.Canonical.{header_cells}
-use Rattle.artery_header.proofs.write.header_of.Goals as goal
+use Rattle.artery_header.proofs.Canonical.{tag_cells}
+use Rattle.artery_header.proofs.write.tags_of.Goals as goal
 
 pub returns : goal.returns
 returns c =
@@ -12,9 +12,7 @@ returns c =
     let at_recipient = ap (λ (n : ℕ). tag_of (28 + n) (named e.recipient)) sender in
     let at_manifest = ap (λ (n : ℕ). tag_of ((28 + n) + c.spelled_len.result) (named e.manifest)) sender
     ∙ ap (λ (n : ℕ). tag_of ((28 + spelled_len (named e.sender)) + n) (named e.manifest)) recipient in
-    header_cells (contents e) c.to_le_bytes-uid.result c.serializer_of-serializer.result c.to_le_bytes-sender.result c.to_le_bytes-recipient.result c.to_le_bytes-manifest.result
-    c.to_le_bytes-uid.ensures
-    c.serializer_of-serializer.ensures
+    tag_cells (contents e) c.to_le_bytes-sender.result c.to_le_bytes-recipient.result c.to_le_bytes-manifest.result
     (c.to_le_bytes-sender.ensures ∙ ap (little_bytes 4) c.tag_of.ensures)
     (c.to_le_bytes-recipient.ensures ∙ ap (little_bytes 4) (c.tag_of-2.ensures ∙ at_recipient))
     (c.to_le_bytes-manifest.ensures ∙ ap (little_bytes 4) (c.tag_of-3.ensures ∙ at_manifest))
