@@ -1,30 +1,31 @@
 -- Reading the fields that were written.
-use Rattle.std.proofs.Common.{◌≡◌, ℕ, ◌+◌, ◌-◌, ◌%◌, ◌^◌, ◌<◌, ◌≤◌, Bool, true, false, cond, ltb, leb, eqb, List, [], ◌∷◌, ◌++◌, length, map, Option, Some, None, Result, Ok, Err, refl, sym, ap, append_assoc, subst, ◌∙◌, arith}
+use Rattle.std.proofs.Common.{◌≡◌, ℕ, ◌%◌, ◌^◌, ◌<◌, ◌≤◌, Bool, true, false, cond, leb, eqb, List, [], ◌∷◌, ◌++◌, length, map, Option, Some, None, Result, Ok, refl, ap, append_assoc, ◌∙◌, arith}
 use Rattle.std.specs.Prelude.{◌&&◌, ℤ, pos, negsuc, FitsSigned}
 use Rattle.std.specs.Int.{w32, w64, cast_signed, cast_unsigned}
 use Rattle.std.proofs.lemmas.Int.{to_z-of_z}
 use Rattle.artery_base.specs.declared.message.SysMsg.{SysMsg}
 use Rattle.std.specs.Option.{option_or, unwrap_or}
-use Rattle.std.specs.List.{AllByRecursion}
+use Rattle.std.specs.List.{AllByRecursion, list_all, filter_map, flat_map, cons_option}
 use Rattle.std.proofs.lemmas.Bool.{le-leb, eq-eqb, and_from}
 use Rattle.std.proofs.lemmas.List.{append-nil}
+use Rattle.std.proofs.lemmas.List.Concat.{flat_map-cons}
 use Rattle.artery_base.specs.declared.address.Address.{Address}
 use Rattle.artery_base.specs.declared.address.UniqueAddress.{UniqueAddress}
 use Rattle.artery_wire.specs.declared.fault.WireFault.{WireFault}
 use Rattle.artery_wire.specs.Record.{FieldOf}
 use Rattle.artery_wire.specs.Writing.{uint_field, bytes_field, record_bytes}
-use Rattle.artery_wire.specs.Laws.{FitsField, WrittenIsRead}
+use Rattle.artery_wire.specs.Laws.{WrittenIsRead}
 use Rattle.artery_control.specs.declared.control.Control.{Control}
 use Rattle.artery_control.specs.declared.control.Control.TheVariants as controls
 use Rattle.artery_control.specs.declared.fault.ControlFault.{ControlFault}
 use Rattle.artery_control.specs.declared.path.Path.{Path}
 use Rattle.artery_control.specs.declared.path.Path.TheVariants as paths
-use Rattle.artery_control.specs.Outcome.{to_field, ◌>>=◌}
-use Rattle.artery_control.specs.Picking.{fields_in, varint_in, bytes_in, last_picked, last_number, last_payload, well_formed, sound, packed_sound, where_present, each_payload, joined, required, embedded}
+use Rattle.artery_control.specs.Outcome.{to_field, ◌>>=◌, each_of}
+use Rattle.artery_control.specs.Picking.{fields_in, varint_in, bytes_in, last_picked, last_number, last_payload, well_formed, sound, packed_sound, where_present, each_payload, joined, embedded}
 use Rattle.artery_control.specs.Parts.{is_part, is_key}
-use Rattle.artery_control.specs.Message.{number_at, low32, ranged, ranged_at, part_text, part_at, address_in, address_at, unique_in, unique_at, version_of, agreeing, sequence_at, table_ack_in, counted_in, quarantined_in, request_in, answer_in, refs_ack_in, manifests_ack_in, refs_table_in, manifests_table_in, numbered_in, with_key, keys_from, keys_at, with_value, with_values, repeated_in, values_from, values_at, equally_many, table_in, message_in, is_letter, message_of}
-use Rattle.artery_control.specs.Payload.{optional_field, present_field, address_fields, address_bytes, unique_fields, unique_bytes, unique_field, table_fields, table_ack_fields, message_fields, numbered_fields, control_fields, payload_of, letter_of}
-use Rattle.artery_control.specs.RoundTrip.{AreWritable, IsAddress, IsUnique, IsVersion, IsTable, IsMessage, WrittenIsReadAgain}
+use Rattle.artery_control.specs.Message.{number_at, ranged_at, part_at, address_in, address_at, unique_in, unique_at, version_of, agreeing, sequence_at, table_ack_in, counted_in, quarantined_in, request_in, answer_in, refs_ack_in, manifests_ack_in, refs_table_in, manifests_table_in, numbered_in, keys_at, is_value, repeated_in, values_at, table_in, message_in, is_letter, message_of}
+use Rattle.artery_control.specs.Payload.{optional_field, present_field, address_fields, address_bytes, unique_fields, unique_bytes, unique_field, table_fields, table_ack_fields, numbered_fields, control_fields, payload_of}
+use Rattle.artery_control.specs.RoundTrip.{AreWritable, IsAddress, IsUnique, IsVersion, IsTable, WrittenIsReadAgain}
 
 -- ---- the fields of a record that was written
 
@@ -233,42 +234,40 @@ none_values_varint : (k : ℕ) (values : List ℕ) → eqb 5 k ≡ false → Non
 none_values_varint k [] e = tt
 none_values_varint k (n ∷ ns) e = (ap (λ b. cond b (Some n) None) e, none_values_varint k ns e)
 
-keys_none : (path : Path) (keys : List (List ℕ)) (fs : List FieldOf) → NonePicked (bytes_in 4) fs → keys_from path 4 keys fs ≡ Ok keys
-unfolding keys_from
-keys_none path keys [] none = refl
-keys_none path keys (f ∷ fs) none = ap (λ (o : Option (List ℕ)). with_key path keys o >>= λ more. keys_from path 4 more fs) none.0 ∙ keys_none path keys fs none.1
+keys_none : (fs : List FieldOf) → NonePicked (bytes_in 4) fs → filter_map (bytes_in 4) fs ≡ []
+keys_none [] none = refl
+keys_none (f ∷ fs) none = ap (λ (o : Option (List ℕ)). cons_option o (filter_map (bytes_in 4) fs)) none.0 ∙ keys_none fs none.1
 
-keys_all : (path : Path) (before keys : List (List ℕ)) (after : List FieldOf) → AllByRecursion (λ text. is_key text ≡ true) keys → NonePicked (bytes_in 4) after
-    → keys_from path 4 before (map (bytes_field 4) keys ++ after) ≡ Ok (before ++ keys)
-unfolding keys_from
-keys_all path before [] after fine none = keys_none path before after none ∙ ap (λ (t : List (List ℕ)). Ok t) (sym (append-nil before))
-keys_all path before (x ∷ xs) after fine none =
-    let test : is_key x ≡ true = fine.0 in
-    rw test (keys_all path (before ++ x ∷ []) xs after fine.1 none ∙ ap (λ (t : List (List ℕ)). Ok t) (append_assoc before (x ∷ []) xs))
+keys_all : (keys : List (List ℕ)) (after : List FieldOf) → NonePicked (bytes_in 4) after → filter_map (bytes_in 4) (map (bytes_field 4) keys ++ after) ≡ keys
+keys_all [] after none = keys_none after none
+keys_all (x ∷ xs) after none = ap (λ (t : List (List ℕ)). x ∷ t) (keys_all xs after none)
+
+keys_fine : (keys : List (List ℕ)) → AllByRecursion (λ text. is_key text ≡ true) keys → list_all is_key keys ≡ true
+keys_fine [] fine = refl
+keys_fine (x ∷ xs) fine = and_from _ _ fine.0 (keys_fine xs fine.1)
 
 abbrev NoneRepeated : List FieldOf → Type 0
 NoneRepeated fs = AllByRecursion (λ f. repeated_in 5 f ≡ []) fs
 
-values_none : (path : Path) (values : List ℕ) (fs : List FieldOf) → NoneRepeated fs → values_from path 5 values fs ≡ Ok values
-unfolding values_from with_values
-values_none path values [] none = refl
-values_none path values (f ∷ fs) none = ap (λ (ns : List ℕ). with_values path values ns >>= λ more. values_from path 5 more fs) none.0 ∙ values_none path values fs none.1
+values_none : (fs : List FieldOf) → NoneRepeated fs → flat_map (repeated_in 5) fs ≡ []
+values_none [] none = refl
+values_none (f ∷ fs) none = flat_map-cons (repeated_in 5) f fs ∙ ap (λ (ns : List ℕ). ns ++ flat_map (repeated_in 5) fs) none.0 ∙ values_none fs none.1
 
-values_skip : (path : Path) (values : List ℕ) (before after : List FieldOf) → NoneRepeated before → values_from path 5 values (before ++ after) ≡ values_from path 5 values after
-unfolding values_from with_values
-values_skip path values [] after none = refl
-values_skip path values (f ∷ fs) after none =
-    ap (λ (ns : List ℕ). with_values path values ns >>= λ more. values_from path 5 more (fs ++ after)) none.0 ∙ values_skip path values fs after none.1
+values_skip : (before after : List FieldOf) → NoneRepeated before → flat_map (repeated_in 5) (before ++ after) ≡ flat_map (repeated_in 5) after
+values_skip [] after none = refl
+values_skip (f ∷ fs) after none =
+    flat_map-cons (repeated_in 5) f (fs ++ after) ∙ ap (λ (ns : List ℕ). ns ++ flat_map (repeated_in 5) (fs ++ after)) none.0 ∙ values_skip fs after none.1
 
-values_all : (path : Path) (before values : List ℕ) (after : List FieldOf) → AllByRecursion (λ n. n ≤ 65535) values → NoneRepeated after
-    → values_from path 5 before (map (uint_field 5) values ++ after) ≡ Ok (before ++ values)
-unfolding values_from with_values
-values_all path before [] after fine none = values_none path before after none ∙ ap (λ (t : List ℕ). Ok t) (sym (append-nil before))
-values_all path before (n ∷ ns) after fine none =
+values_all : (values : List ℕ) (after : List FieldOf) → AllByRecursion (λ n. n ≤ 65535) values → NoneRepeated after → flat_map (repeated_in 5) (map (uint_field 5) values ++ after) ≡ values
+values_all [] after fine none = values_none after none
+values_all (n ∷ ns) after fine none =
     let small : n ≤ 65535 = fine.0 in
     let same : n % 2 ^ 32 ≡ n = omega (arith, small) in
-    let test : leb n 65535 ≡ true = le-leb _ _ small in
-    rw (same, test) (values_all path (before ++ n ∷ []) ns after fine.1 none ∙ ap (λ (t : List ℕ). Ok t) (append_assoc before (n ∷ []) ns))
+    flat_map-cons (repeated_in 5) (uint_field 5 n) (map (uint_field 5) ns ++ after) ∙ rw same (ap (λ (t : List ℕ). n ∷ t) (values_all ns after fine.1 none))
+
+values_fine : (values : List ℕ) → AllByRecursion (λ n. n ≤ 65535) values → list_all is_value values ≡ true
+values_fine [] fine = refl
+values_fine (n ∷ ns) fine = and_from _ _ (le-leb _ _ fine.0) (values_fine ns fine.1)
 
 repeated_keys : (keys : List (List ℕ)) → NoneRepeated (map (bytes_field 4) keys)
 repeated_keys [] = tt
@@ -281,7 +280,7 @@ repeated_optional (Some n) = (refl, tt)
 table_again : WrittenIsRead → (from : UniqueAddress) (origin version : ℕ) (keys : List (List ℕ)) (values : List ℕ) (sequence : Option ℕ) → IsUnique from → IsVersion version sequence → IsTable keys values
     → AreWritable (table_fields from origin version keys values sequence)
     → table_in (record_bytes (table_fields from origin version keys values sequence)) ≡ Ok (record { from = from; origin_uid = origin; version = version; keys = keys; values = values; sequence = sequence })
-unfolding table_in keys_at keys_from values_at values_from with_values
+unfolding table_in keys_at values_at each_of
 table_again w from origin version keys values sequence is fine table fits =
     let bytes : List ℕ = record_bytes (table_fields from origin version keys values sequence) in
     let names : List FieldOf = map (bytes_field 4) keys in
@@ -299,21 +298,24 @@ table_again w from origin version keys values sequence is fine table fits =
     number_again paths.Message 2 bytes origin (ap (last_picked (varint_in 2)) fields ∙ last_at (varint_in 2) (unique_field 1 from ∷ []) (uint_field 2 origin) (uint_field 3 version ∷ (names ++ (numbers ++ last))) origin refl (refl, no_number 2 refl refl)) in
     let third : ranged_at paths.Message 3 0 255 bytes ≡ Ok version =
     ranged_again paths.Message 3 0 255 bytes version (ap (last_picked (varint_in 3)) fields ∙ last_at (varint_in 3) (unique_field 1 from ∷ uint_field 2 origin ∷ []) (uint_field 3 version) (names ++ (numbers ++ last)) version refl (no_number 3 refl refl)) (omega arith) (version_small version sequence fine) (omega arith) in
-    let fourth : keys_from (paths.Field 4) 4 [] (fields_in bytes) ≡ Ok keys =
-    ap (keys_from (paths.Field 4) 4 []) fields ∙ keys_all (paths.Field 4) [] keys (numbers ++ last) table.each_key (none_then (bytes_in 4) numbers last (none_values 4 values) (none_bytes 4 6 sequence)) in
+    let fourth : filter_map (bytes_in 4) (fields_in bytes) ≡ keys =
+    ap (filter_map (bytes_in 4)) fields ∙ keys_all keys (numbers ++ last) (none_then (bytes_in 4) numbers last (none_values 4 values) (none_bytes 4 6 sequence)) in
+    let each_key : list_all is_key keys ≡ true = keys_fine keys table.each_key in
     let packed : each_payload (packed_sound (paths.Field 5)) 5 (fields_in bytes) ≡ Ok tt =
     ap (each_payload (packed_sound (paths.Field 5)) 5) fields ∙ each_none (packed_sound (paths.Field 5)) 5 (head ++ (names ++ (numbers ++ last))) (refl, (refl, (refl, no_bytes 5 refl))) in
-    let fifth : values_from (paths.Field 5) 5 [] (fields_in bytes) ≡ Ok values =
-    ap (values_from (paths.Field 5) 5 []) fields
-    ∙ values_skip (paths.Field 5) [] names (numbers ++ last) (repeated_keys keys)
-    ∙ values_all (paths.Field 5) [] values last table.each_value (repeated_optional sequence) in
+    let fifth : flat_map (repeated_in 5) (fields_in bytes) ≡ values =
+    ap (flat_map (repeated_in 5)) fields
+    ∙ values_skip head (names ++ (numbers ++ last)) (refl, (refl, (refl, tt)))
+    ∙ values_skip names (numbers ++ last) (repeated_keys keys)
+    ∙ values_all values last table.each_value (repeated_optional sequence) in
+    let each_value : list_all is_value values ≡ true = values_fine values table.each_value in
     let grouped : head ++ (names ++ (numbers ++ last)) ≡ (head ++ (names ++ numbers)) ++ last = simp append_assoc in
     let sixth : last_number 6 bytes ≡ sequence =
     ap (last_picked (varint_in 6)) (fields ∙ grouped)
     ∙ last_optional 6 (head ++ (names ++ numbers)) sequence refl (refl, (refl, (refl, none_then (varint_in 6) names numbers (none_keys_varint 6 keys) (none_values_varint 6 values refl)))) in
     let seventh : sequence_at paths.Message 6 version bytes ≡ Ok sequence = sequence_again paths.Message 6 version bytes sequence sixth fine in
     let equal : eqb (length keys) (length values) ≡ true = eq-eqb _ _ table.equal in
-    rw (first, second, third, fourth, packed, fifth, seventh, equal) refl
+    rw (first, second, third, fourth, each_key, packed, fifth, each_value, seventh, equal) refl
 
 -- ---- system messages
 

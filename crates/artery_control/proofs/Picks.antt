@@ -1,5 +1,5 @@
 -- One more field of a record.
-use Rattle.std.proofs.Common.{◌≡◌, ℕ, List, [], ◌∷◌, ◌++◌, Option, Some, None, refl, sym, ap, ◌∙◌}
+use Rattle.std.proofs.Common.{◌≡◌, List, ◌∷◌, Option, Some, None, refl, sym, ap, ◌∙◌}
 use Rattle.std.specs.Option.{option_or}
 use Rattle.artery_wire.specs.Record.{FieldOf}
 use Rattle.artery_control.specs.Picking.{last_picked}

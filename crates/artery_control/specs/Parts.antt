@@ -1,14 +1,7 @@
 -- The texts of an address, and the keys of a table.
-use Rattle.std.specs.Prelude.{ℕ, Bool, ◌==◌, ◌&&◌, ◌||◌, nat_le, nat_lt, List, length}
+use Rattle.std.specs.Prelude.{ℕ, Bool, ◌&&◌, nat_le, nat_lt, List, length}
 use Rattle.std.specs.List.{list_all}
-
--- the byte is one from the first to the last
-abbrev pub is_within : ℕ → ℕ → ℕ → Bool
-is_within first last b = nat_le first b && nat_le b last
-
--- a part of an address may have this byte: a letter, a digit, `-`, `_` or `.`
-abbrev pub is_part_byte : ℕ → Bool
-is_part_byte b = is_within 97 122 b || is_within 65 90 b || is_within 48 57 b || b == 45 || b == 95 || b == 46
+use Rattle.artery_base.specs.Spelling.{is_part_byte}
 
 -- a part of an address: 1 to 255 such bytes
 unfoldable pub is_part : List ℕ → Bool

@@ -1,5 +1,5 @@
 -- The canonical payload of a control message: ascending fields, shortest varints, unpacked numbers, no empty manifest.
-use Rattle.std.specs.Prelude.{◌≡◌, ℕ, List, [], ◌∷◌, ◌++◌, length, map, Option, Some, None}
+use Rattle.std.specs.Prelude.{ℕ, Bool, true, false, List, [], ◌∷◌, ◌++◌, map, Option, Some, None}
 use Rattle.std.specs.Int.{w64, cast_unsigned}
 use Rattle.artery_base.specs.declared.address.Address.{Address}
 use Rattle.artery_base.specs.declared.address.UniqueAddress.{UniqueAddress}
@@ -19,15 +19,19 @@ abbrev pub present_field : ℕ → List ℕ → List FieldOf
 present_field k [] = []
 present_field k (b ∷ bs) = bytes_field k (b ∷ bs) ∷ []
 
+-- an address has four fields: its protocol 1, its system 2, its host 3 and its port 4
 abbrev pub address_fields : Address → List FieldOf
 address_fields a = bytes_field 1 a.protocol ∷ bytes_field 2 a.system ∷ bytes_field 3 a.host ∷ uint_field 4 a.port ∷ []
 
+-- an address as the payload of a field: the record of its fields
 unfoldable pub address_bytes : Address → List ℕ
 address_bytes a = record_bytes (address_fields a)
 
+-- a unique address has two fields: its address 1, a record of its own, and its UID 2
 abbrev pub unique_fields : UniqueAddress → List FieldOf
 unique_fields u = bytes_field 1 (address_bytes u.address) ∷ uint_field 2 u.uid ∷ []
 
+-- a unique address as the payload of a field: the record of its fields
 unfoldable pub unique_bytes : UniqueAddress → List ℕ
 unique_bytes u = record_bytes (unique_fields u)
 
@@ -35,17 +39,21 @@ unique_bytes u = record_bytes (unique_fields u)
 abbrev pub unique_field : ℕ → UniqueAddress → FieldOf
 unique_field k u = bytes_field k (unique_bytes u)
 
+-- a table has the unique address 1 of who announces it, its origin's UID 2, its version 3, a field 4 for each key, a field 5 for each value, and its sequence 6, where there is one
 abbrev pub table_fields : UniqueAddress → ℕ → ℕ → List (List ℕ) → List ℕ → Option ℕ → List FieldOf
 table_fields from origin version keys values sequence =
     (unique_field 1 from ∷ uint_field 2 origin ∷ uint_field 3 version ∷ [])
     ++ (map (bytes_field 4) keys ++ (map (uint_field 5) values ++ optional_field 6 sequence))
 
+-- the answer to a table has the unique address 1 of who adopted it, its version 2, and its sequence 3, where there is one
 abbrev pub table_ack_fields : UniqueAddress → ℕ → Option ℕ → List FieldOf
 table_ack_fields from version sequence = unique_field 1 from ∷ uint_field 2 version ∷ optional_field 3 sequence
 
+-- a system message has its payload 1, its serializer 2, sign-extended to 64 bits, and its manifest 3, where it is not empty
 abbrev pub message_fields : SysMsg → List FieldOf
 message_fields m = bytes_field 1 m.payload ∷ uint_field 2 (cast_unsigned w64 m.serializer) ∷ present_field 3 m.manifest
 
+-- a numbered message has the fields 1 to 3 of the system message, then its number 4 and the unique address 5 of who is to be answered
 abbrev pub numbered_fields : ℕ → SysMsg → UniqueAddress → List FieldOf
 numbered_fields n m reply_to = message_fields m ++ (uint_field 4 n ∷ unique_field 5 reply_to ∷ [])
 
@@ -65,6 +73,14 @@ control_fields (controls.Ack n from) = uint_field 1 n ∷ unique_field 2 from �
 control_fields (controls.Nack n from) = uint_field 1 n ∷ unique_field 2 from ∷ []
 control_fields controls.Heartbeat = []
 control_fields (controls.HeartbeatRsp uid) = uint_field 1 uid ∷ []
+
+-- whether a message announces a table, or answers one
+abbrev pub is_about_table : Control → Bool
+is_about_table (controls.RefsTable from origin version keys values sequence) = true
+is_about_table (controls.RefsAck from version sequence) = true
+is_about_table (controls.ManifestsTable from origin version keys values sequence) = true
+is_about_table (controls.ManifestsAck from version sequence) = true
+is_about_table _ = false
 
 -- the canonical payload
 abbrev pub payload_of : Control → List ℕ

@@ -1,8 +1,8 @@
 -- What the fields of a record say about one number.
-use Rattle.std.specs.Prelude.{◌≡◌, ℕ, ◌==◌, List, [], ◌∷◌, ◌++◌, Option, Some, None, Result, Ok, Err, if◌then◌else◌}
+use Rattle.std.specs.Prelude.{ℕ, ◌==◌, List, [], ◌∷◌, ◌++◌, Option, Some, None, Result, Ok, Err, if◌then◌else◌}
 use Rattle.std.specs.Option.{option_or, unwrap_or}
 use Rattle.artery_wire.specs.declared.fault.WireFault.{WireFault}
-use Rattle.artery_wire.specs.Record.{ValueOf, Varint, Fixed64, Bytes, Fixed32, FieldOf}
+use Rattle.artery_wire.specs.Record.{ValueOf, Varint, Bytes, FieldOf}
 use Rattle.artery_wire.specs.Reading.{fields_of, numbers_of}
 use Rattle.artery_control.specs.declared.fault.ControlFault.{ControlFault}
 use Rattle.artery_control.specs.declared.fault.ControlFault.TheVariants as faults
@@ -13,10 +13,12 @@ use Rattle.artery_control.specs.Outcome.{to_field, ◌>>=◌}
 abbrev pub fields_in : List ℕ → List FieldOf
 fields_in bytes = (fields_of bytes).0
 
+-- the number that a value is, where it is a varint
 abbrev pub varint_value : ValueOf → Option ℕ
 varint_value (Varint n) = Some n
 varint_value _ = None
 
+-- the payload that a value is, where it is bytes with their length
 abbrev pub bytes_value : ValueOf → Option (List ℕ)
 bytes_value (Bytes payload) = Some payload
 bytes_value _ = None
@@ -57,6 +59,7 @@ sound path bytes = well_formed path (fields_of bytes).1
 unfoldable pub packed_sound : Path → List ℕ → Result (Unit {0}) ControlFault
 packed_sound path bytes = well_formed path (numbers_of bytes).1
 
+-- a value that is there passes the test, and one that is absent passes any
 abbrev pub where_present : {X : Type 0} → (X → Result (Unit {0}) ControlFault) → Option X → Result (Unit {0}) ControlFault
 where_present test None = Ok tt
 where_present test (Some x) = test x

@@ -1,5 +1,5 @@
 -- What was written is read again.
-use Rattle.std.specs.Prelude.{◌≡◌, ℕ, FitsSigned, true, ◌≤◌, List, [], ◌∷◌, length, Option, Some, None, Result, Ok}
+use Rattle.std.specs.Prelude.{◌≡◌, ℕ, FitsSigned, true, ◌≤◌, List, [], ◌∷◌, length, Option, Some, None, Ok}
 use Rattle.std.specs.List.{AllByRecursion}
 use Rattle.std.specs.Int.{w32}
 use Rattle.artery_base.specs.declared.address.Address.{Address}
@@ -25,6 +25,7 @@ pub record IsAddress (a : Address) : Type 0 where
   pub most : a.port ≤ 65535
   pub writable : AreWritable (address_fields a)
 
+-- a unique address whose address may stand in one, and whose fields can be written
 pub record IsUnique (u : UniqueAddress) : Type 0 where
   pub address : IsAddress u.address
   pub writable : AreWritable (unique_fields u)

@@ -2,7 +2,7 @@ use artery_base::{Address, Names, SysMsg, UniqueAddress, Values};
 
 /// A message between two nodes themselves, as their own serializer writes it.
 /// `sequence` is the number of a table, present from where its version alone no longer tells it.
-#[derive(Clone, Debug, Drop)]
+#[derive(Debug, Drop)]
 pub enum Control {
     /// `from` has quarantined `to` (`a`).
     Quarantined {

@@ -1,6 +1,7 @@
-ghost use Rattle.std.specs.Prelude.{◌≡◌};
+ghost use Rattle.std.specs.Prelude.{◌≡◌, IfOk};
+ghost use Rattle.std.specs.Option.{option_map};
 ghost use Rattle.artery_control.specs.Outcome.{Gives};
-ghost use Rattle.artery_control.specs.Message.{quarantined_in, request_in, answer_in, refs_table_in, refs_ack_in, manifests_table_in, manifests_ack_in, numbered_in, message_in, message_of};
+ghost use Rattle.artery_control.specs.Message.{quarantined_in, terminating_in, terminating_ack_in, request_in, answer_in, refs_table_in, refs_ack_in, manifests_table_in, manifests_ack_in, system_message_of, numbered_in, ack_in, nack_in, heartbeat_answer_in, message_in, message_of};
 
 use crate::control::Control;
 use crate::fault::ControlFault;
@@ -8,7 +9,7 @@ use crate::path::Path;
 use crate::picking::{check_record, last_bytes, last_varint};
 use crate::reading::{TWO_TO_32, address, counted_message, number, table_ack_message, unique};
 use crate::table::table_message;
-use artery_base::{Bytes, SysMsg};
+use artery_base::{Bytes, NoMemory, SysMsg};
 use std::alloc::Global;
 
 /// The control message of a manifest, one letter from `a` to `n`, and a payload; else the first fault:
@@ -27,20 +28,15 @@ pub fn read_control(alloc: Global, manifest: &[u8], bytes: &[u8]) -> Result<Cont
     message(alloc, *letter, bytes)
 }
 
+/// The message of this letter; `UnknownManifest` for any other byte.
 #[tactic(auto, unfolding(crate::specs::Message::message_in))]
 fn message(alloc: Global, letter: u8, bytes: &[u8]) -> Result<Control, ControlFault>
     ensures { Gives (λ c. c) result (message_in letter bytes.now) }
 {
     match letter {
         b'a' => quarantined(alloc, bytes),
-        b'b' => {
-            let from = unique(alloc, Path::Message, 1, bytes)?;
-            Ok(Control::Terminating { from })
-        }
-        b'c' => {
-            let from = unique(alloc, Path::Message, 1, bytes)?;
-            Ok(Control::TerminatingAck { from })
-        }
+        b'b' => terminating(alloc, bytes),
+        b'c' => terminating_ack(alloc, bytes),
         b'd' => handshake_request(alloc, bytes),
         b'e' => handshake_answer(alloc, bytes),
         b'f' => refs_table(alloc, bytes),
@@ -48,25 +44,10 @@ fn message(alloc: Global, letter: u8, bytes: &[u8]) -> Result<Control, ControlFa
         b'h' => manifests_table(alloc, bytes),
         b'i' => manifests_ack(alloc, bytes),
         b'j' => numbered(alloc, bytes),
-        b'k' => {
-            let counted = counted_message(alloc, bytes)?;
-            Ok(Control::Ack {
-                n: counted.n,
-                from: counted.from,
-            })
-        }
-        b'l' => {
-            let counted = counted_message(alloc, bytes)?;
-            Ok(Control::Nack {
-                n: counted.n,
-                from: counted.from,
-            })
-        }
+        b'k' => ack(alloc, bytes),
+        b'l' => nack(alloc, bytes),
         b'm' => Ok(Control::Heartbeat),
-        b'n' => {
-            let uid = number(Path::Message, 1, bytes)?;
-            Ok(Control::HeartbeatRsp { uid })
-        }
+        b'n' => heartbeat_answer(bytes),
         _ => Err(ControlFault::UnknownManifest),
     }
 }
@@ -78,6 +59,20 @@ fn quarantined(alloc: Global, bytes: &[u8]) -> Result<Control, ControlFault>
     let from = unique(alloc, Path::Message, 1, bytes)?;
     let to = unique(alloc, Path::Message, 2, bytes)?;
     Ok(Control::Quarantined { from, to })
+}
+
+fn terminating(alloc: Global, bytes: &[u8]) -> Result<Control, ControlFault>
+    ensures { Gives (λ c. c) result (terminating_in bytes.now) }
+{
+    let from = unique(alloc, Path::Message, 1, bytes)?;
+    Ok(Control::Terminating { from })
+}
+
+fn terminating_ack(alloc: Global, bytes: &[u8]) -> Result<Control, ControlFault>
+    ensures { Gives (λ c. c) result (terminating_ack_in bytes.now) }
+{
+    let from = unique(alloc, Path::Message, 1, bytes)?;
+    Ok(Control::TerminatingAck { from })
 }
 
 #[tactic(auto, unfolding(crate::specs::Message::request_in))]
@@ -158,6 +153,51 @@ fn manifests_ack(alloc: Global, bytes: &[u8]) -> Result<Control, ControlFault>
     })
 }
 
+fn ack(alloc: Global, bytes: &[u8]) -> Result<Control, ControlFault>
+    ensures { Gives (λ c. c) result (ack_in bytes.now) }
+{
+    let counted = counted_message(alloc, bytes)?;
+    Ok(Control::Ack {
+        n: counted.n,
+        from: counted.from,
+    })
+}
+
+fn nack(alloc: Global, bytes: &[u8]) -> Result<Control, ControlFault>
+    ensures { Gives (λ c. c) result (nack_in bytes.now) }
+{
+    let counted = counted_message(alloc, bytes)?;
+    Ok(Control::Nack {
+        n: counted.n,
+        from: counted.from,
+    })
+}
+
+fn heartbeat_answer(bytes: &[u8]) -> Result<Control, ControlFault>
+    ensures { Gives (λ c. c) result (heartbeat_answer_in bytes.now) }
+{
+    let uid = number(Path::Message, 1, bytes)?;
+    Ok(Control::HeartbeatRsp { uid })
+}
+
+/// The system message of these fields: an absent manifest is empty.
+fn system_message(
+    alloc: Global,
+    serializer: u64,
+    manifest: Option<&[u8]>,
+    payload: &[u8],
+) -> Result<SysMsg, NoMemory>
+    ensures { IfOk result (λ m. m ≡ system_message_of serializer (option_map (λ p. p.now) manifest.entry) payload.now) }
+{
+    let manifest = Bytes::from_slice(alloc, manifest.unwrap_or(&[]))?;
+    let payload = Bytes::from_slice(alloc, payload)?;
+    Ok(SysMsg {
+        serializer: ((serializer % TWO_TO_32) as u32).cast_signed(),
+        manifest,
+        payload,
+    })
+}
+
 #[tactic(auto, unfolding(crate::specs::Message::numbered_in))]
 fn numbered(alloc: Global, bytes: &[u8]) -> Result<Control, ControlFault>
     ensures { Gives (λ c. c) result (numbered_in bytes.now) }
@@ -167,16 +207,10 @@ fn numbered(alloc: Global, bytes: &[u8]) -> Result<Control, ControlFault>
             path: Path::Field(1),
         });
     };
-    let serializer = number(Path::Message, 2, bytes)? % TWO_TO_32;
+    let serializer = number(Path::Message, 2, bytes)?;
     let n = number(Path::Message, 4, bytes)?;
     let reply_to = unique(alloc, Path::Message, 5, bytes)?;
-    let manifest = Bytes::from_slice(alloc, last_bytes(3, bytes).unwrap_or(&[]))?;
-    let payload = Bytes::from_slice(alloc, payload)?;
-    let message = SysMsg {
-        serializer: (serializer as u32).cast_signed(),
-        manifest,
-        payload,
-    };
+    let message = system_message(alloc, serializer, last_bytes(3, bytes), payload)?;
     Ok(Control::Numbered {
         n,
         message,

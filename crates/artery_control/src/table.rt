@@ -1,10 +1,13 @@
-ghost use Rattle.std.specs.Prelude.{◌≡◌, [], length};
-ghost use Rattle.std.specs.Option.{option_map};
+ghost use Rattle.std.specs.Prelude.{◌≡◌, [], ◌∷◌, length, map};
+ghost use Rattle.std.specs.Option.{option_map, option_to_list};
+ghost use Rattle.std.specs.List.{filter_map, flat_map};
 ghost use Rattle.artery_wire.specs.Record.{field_of};
-ghost use Rattle.artery_control.specs.Outcome.{Gives};
-ghost use Rattle.artery_control.specs.Picking.{fields_in};
+ghost use Rattle.artery_control.specs.declared.fault.ControlFault.TheVariants as faults;
+ghost use Rattle.artery_control.specs.Outcome.{Gives, each_of, appended};
+ghost use Rattle.artery_control.specs.Picking.{fields_in, bytes_in};
+ghost use Rattle.artery_control.specs.Parts.{is_key};
 ghost use Rattle.artery_wire.specs.Reading.{numbers_of};
-ghost use Rattle.artery_control.specs.Message.{with_key, keys_from, keys_at, with_value, with_values, repeated_in, values_from, values_at, table_in};
+ghost use Rattle.artery_control.specs.Message.{low32, keys_at, is_value, repeated_in, values_at, table_in};
 
 use crate::fault::ControlFault;
 use crate::fields::Fields;
@@ -18,13 +21,14 @@ use artery_wire::{Field, Value};
 use std::alloc::Global;
 
 /// Adds the text of an occurrence to the keys.
+#[tactic(auto, unfolding(crate::specs::Outcome::each_of))]
 fn add_key(
     alloc: Global,
     path: Path,
     text: Option<&[u8]>,
     keys: &mut Names,
 ) -> Result<(), ControlFault>
-    ensures { Gives (λ _. keys.new) result (with_key path keys.old (option_map (λ p. p.now) text.entry)) }
+    ensures { Gives (λ _. keys.new) result (appended keys.old (each_of is_key (faults.BadText path) (option_to_list (option_map (λ p. p.now) text.entry)))) }
 {
     let Some(text) = text else {
         return Ok(());
@@ -37,7 +41,7 @@ fn add_key(
 }
 
 /// The keys of a table: all texts of the field, in order.
-#[tactic(auto, unfolding(crate::specs::Message::keys_at, crate::specs::Message::keys_from))]
+#[tactic(auto, using(crate::proofs::Gathers::keys_begin), unfolding(crate::specs::Message::keys_at, crate::proofs::Gathers::keys_from))]
 fn table_keys(alloc: Global, path: Path, number: u8, bytes: &[u8]) -> Result<Names, ControlFault>
     ensures { Gives (λ k. k) result (keys_at path number bytes.now) }
 {
@@ -51,8 +55,9 @@ fn table_keys(alloc: Global, path: Path, number: u8, bytes: &[u8]) -> Result<Nam
 }
 
 /// Adds a number to the values: its low 32 bits, which are at most 65,535.
+#[tactic(auto, unfolding(crate::specs::Outcome::each_of))]
 fn add_value(path: Path, number: u64, values: &mut Values) -> Result<(), ControlFault>
-    ensures { Gives (λ _. values.new) result (with_value path values.old number) }
+    ensures { Gives (λ _. values.new) result (appended values.old (each_of is_value (faults.Range path) (low32 number ∷ []))) }
 {
     let value = number % TWO_TO_32;
     if value > u16::MAX as u64 {
@@ -63,9 +68,9 @@ fn add_value(path: Path, number: u64, values: &mut Values) -> Result<(), Control
 }
 
 /// Adds the numbers of a packed occurrence.
-#[tactic(auto, unfolding(crate::specs::Message::with_values))]
+#[tactic(auto, using(crate::proofs::Gathers::numbers_begin), unfolding(crate::proofs::Gathers::numbers_from))]
 fn add_packed(path: Path, packed: &[u8], values: &mut Values) -> Result<(), ControlFault>
-    ensures { Gives (λ _. values.new) result (with_values path values.old (numbers_of packed.now).0) }
+    ensures { Gives (λ _. values.new) result (appended values.old (each_of is_value (faults.Range path) (map low32 (numbers_of packed.now).0))) }
 {
     let mut numbers = Packed::new(packed);
     while let Some(number) = numbers.next() {
@@ -75,14 +80,14 @@ fn add_packed(path: Path, packed: &[u8], values: &mut Values) -> Result<(), Cont
 }
 
 /// Adds the numbers of an occurrence, packed or not.
-#[tactic(auto, unfolding(crate::specs::Message::with_values))]
+#[tactic(auto, unfolding(crate::specs::Outcome::each_of))]
 fn add_values(
     path: Path,
     number: u8,
     field: &Field<'_>,
     values: &mut Values,
 ) -> Result<(), ControlFault>
-    ensures { Gives (λ _. values.new) result (with_values path values.old (repeated_in number (field_of field.now))) }
+    ensures { Gives (λ _. values.new) result (appended values.old (each_of is_value (faults.Range path) (repeated_in number (field_of field.now)))) }
 {
     if field.number != number as u32 {
         return Ok(());
@@ -95,7 +100,7 @@ fn add_values(
 }
 
 /// The values of a table: all numbers of the field, in order, packed or not.
-#[tactic(auto, unfolding(crate::specs::Message::values_at, crate::specs::Message::values_from))]
+#[tactic(auto, using(crate::proofs::Gathers::values_begin), unfolding(crate::specs::Message::values_at, crate::proofs::Gathers::values_from))]
 fn table_values(alloc: Global, path: Path, number: u8, bytes: &[u8]) -> Result<Values, ControlFault>
     ensures { Gives (λ v. v) result (values_at path number bytes.now) }
 {

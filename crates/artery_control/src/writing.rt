@@ -1,6 +1,6 @@
-ghost use Rattle.std.specs.Prelude.{◌≡◌, ◌+◌, ◌++◌, [], ◌∷◌, length, map, OnOk, OnErr, IfOk};
+ghost use Rattle.std.specs.Prelude.{◌≡◌, ◌+◌, ◌++◌, [], ◌∷◌, length, map, OnOk, OnErr, IfOk, IsTrue};
 ghost use Rattle.artery_wire.specs.Writing.{IsNumber, record_bytes, uint_field, bytes_field, head_bytes, field_bytes, BeginsWith};
-ghost use Rattle.artery_control.specs.Payload.{optional_field, present_field, address_bytes, unique_bytes, unique_field, table_fields, table_ack_fields, message_fields, numbered_fields, control_fields, payload_of, letter_of};
+ghost use Rattle.artery_control.specs.Payload.{optional_field, present_field, address_bytes, unique_bytes, unique_field, table_fields, table_ack_fields, message_fields, numbered_fields, control_fields, is_about_table, payload_of, letter_of};
 
 use crate::control::Control;
 use artery_base::{Address, Bytes, Names, NoMemory, SysMsg, UniqueAddress, Values};
@@ -192,6 +192,30 @@ fn append_control(control: &Control, out: &mut Bytes) -> Result<(), NoMemory>
             for_uid,
             nonce,
         } => append_answer(from, *for_uid, *nonce, out),
+        Control::RefsTable { .. }
+        | Control::RefsAck { .. }
+        | Control::ManifestsTable { .. }
+        | Control::ManifestsAck { .. } => append_about_table(control, out),
+        Control::Numbered {
+            n,
+            message,
+            reply_to,
+        } => append_numbered(*n, message, reply_to, out),
+        Control::Ack { n, from } => append_counted(*n, from, out),
+        Control::Nack { n, from } => append_counted(*n, from, out),
+        Control::Heartbeat => Ok(()),
+        Control::HeartbeatRsp { uid } => put_uint(1, *uid, out),
+    }
+}
+
+/// Appends a message that announces a table or answers one.
+#[tactic(auto, using(crate::proofs::Writes::write_steps))]
+fn append_about_table(control: &Control, out: &mut Bytes) -> Result<(), NoMemory>
+    requires { IsTrue (is_about_table control.now) }
+    ensures ok { OnOk result (out.new ≡ out.old ++ payload_of control.now) }
+    ensures err { OnErr result (BeginsWith out.old out.new) }
+{
+    match control {
         Control::RefsTable {
             from,
             origin_uid,
@@ -218,15 +242,7 @@ fn append_control(control: &Control, out: &mut Bytes) -> Result<(), NoMemory>
             version,
             sequence,
         } => append_table_ack(from, *version, *sequence, out),
-        Control::Numbered {
-            n,
-            message,
-            reply_to,
-        } => append_numbered(*n, message, reply_to, out),
-        Control::Ack { n, from } => append_counted(*n, from, out),
-        Control::Nack { n, from } => append_counted(*n, from, out),
-        Control::Heartbeat => Ok(()),
-        Control::HeartbeatRsp { uid } => put_uint(1, *uid, out),
+        _ => Ok(()),
     }
 }
 
