@@ -7,12 +7,12 @@ use Rattle.artery_cli.specs.declared.input.TheConstants.{MOST_BYTES}
 use Rattle.artery_cli.specs.Answers.{Answer, Answers, WritesLawfully, stop_text, stopped, played, script_answer, replay_answer, is_replay, answer}
 use Rattle.artery_world.specs.declared.fault.WorldFault.{WorldFault}
 use Rattle.artery_world.specs.declared.line.Line.{Line}
-use Rattle.artery_world.specs.declared.script.ScriptFault.{ScriptFault}
-use Rattle.artery_world.specs.declared.script.ScriptFault.TheVariants.{BadLine, TooManyLines, NoMemory}
-use Rattle.artery_world.specs.declared.script.ScriptLine.{ScriptLine}
+use Rattle.artery_script.specs.declared.script.ScriptFault.{ScriptFault}
+use Rattle.artery_script.specs.declared.script.ScriptFault.TheVariants.{BadLine, TooManyLines, NoMemory}
+use Rattle.artery_script.specs.declared.script.ScriptLine.{ScriptLine}
 use Rattle.artery_world.specs.Laws.{IsLawful}
 use Rattle.artery_world.specs.Replay.{run}
-use Rattle.artery_world.specs.Script.{script_of}
+use Rattle.artery_script.specs.Script.{script_of}
 use Rattle.artery_world.specs.Texts.{journal_text}
 
 -- an answer that begins with a lawful journal

@@ -4,13 +4,13 @@ use Rattle.std.specs.Prelude.{Option, None, Some, Result, Ok, Err}
 use Rattle.std.specs.Io.KnownBytes.{Appends, Keeps}
 use Rattle.std.proofs.lemmas.List.Concat.{flat_map-append}
 use Rattle.artery_cli.specs.Playing.{Happened, Refused, PlayedTo}
-use Rattle.artery_world.specs.declared.event.Event.{Event}
+use Rattle.artery_script.specs.declared.event.Event.{Event}
 use Rattle.artery_world.specs.declared.fault.Why.{Why}
 use Rattle.artery_world.specs.declared.fault.WorldLimit.{WorldLimit}
 use Rattle.artery_world.specs.declared.fault.WorldFault.{WorldFault}
 use Rattle.artery_world.specs.declared.fault.WorldFault.TheVariants.{NotAllowed, Limit}
 use Rattle.artery_world.specs.declared.line.Line.{Line}
-use Rattle.artery_world.specs.declared.script.ScriptLine.{ScriptLine}
+use Rattle.artery_script.specs.declared.script.ScriptLine.{ScriptLine}
 use Rattle.artery_world.specs.Replay.{Run, goes_on, run_from, with_lines_before, with_lines_before_result}
 use Rattle.artery_world.specs.Step.{step, Happens}
 use Rattle.artery_world.specs.Texts.{journal_text}

@@ -8,13 +8,13 @@ use Rattle.artery_world.specs.declared.fault.WorldLimit.{WorldLimit}
 use Rattle.artery_world.specs.declared.fault.WorldLimit.TheVariants.{Nodes, Kept}
 use Rattle.artery_world.specs.declared.fault.WorldFault.{WorldFault}
 use Rattle.artery_world.specs.declared.fault.WorldFault.TheVariants.{NotAllowed, Limit, NoMemory}
-use Rattle.artery_world.specs.declared.script.ScriptFault.{ScriptFault}
-use Rattle.artery_world.specs.declared.script.ScriptFault.TheVariants as script_faults
-use Rattle.artery_world.specs.declared.script.ScriptLine.{ScriptLine}
+use Rattle.artery_script.specs.declared.script.ScriptFault.{ScriptFault}
+use Rattle.artery_script.specs.declared.script.ScriptFault.TheVariants as script_faults
+use Rattle.artery_script.specs.declared.script.ScriptLine.{ScriptLine}
 use Rattle.artery_world.specs.declared.line.Line.{Line}
 use Rattle.artery_world.specs.Laws.{IsLawful}
 use Rattle.artery_world.specs.Replay.{Run, run}
-use Rattle.artery_world.specs.Script.{script_of}
+use Rattle.artery_script.specs.Script.{script_of}
 use Rattle.artery_world.specs.Texts.{journal_text}
 
 -- what is written, and the status

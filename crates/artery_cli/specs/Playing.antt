@@ -4,10 +4,10 @@ use Rattle.std.specs.Io.KnownBytes.{Appends, Keeps}
 use Rattle.artery_cli.specs.declared.input.Gathered.{Gathered}
 use Rattle.artery_cli.specs.declared.input.Gathered.TheVariants.{Whole, TooLong}
 use Rattle.artery_cli.specs.declared.input.TheConstants.{MOST_BYTES}
-use Rattle.artery_world.specs.declared.event.Event.{Event}
+use Rattle.artery_script.specs.declared.event.Event.{Event}
 use Rattle.artery_world.specs.declared.fault.WorldFault.{WorldFault}
 use Rattle.artery_world.specs.declared.line.Line.{Line}
-use Rattle.artery_world.specs.declared.script.ScriptLine.{ScriptLine}
+use Rattle.artery_script.specs.declared.script.ScriptLine.{ScriptLine}
 use Rattle.artery_world.specs.Replay.{run}
 use Rattle.artery_world.specs.World.{Net, seen}
 use Rattle.artery_world.specs.Step.{step}

@@ -5,14 +5,14 @@ ghost use Rattle.artery_cli.specs.Answers.{Answers, answer, replay_answer, scrip
 ghost use Rattle.artery_cli.specs.Playing.{ReadsAtMost};
 ghost use Rattle.artery_cli.specs.declared.input.TheConstants.{MOST_BYTES};
 ghost use Rattle.artery_cli.specs.declared.stop.Stop.TheVariants as stops;
-ghost use Rattle.artery_world.specs.Script.{script_of};
+ghost use Rattle.artery_script.specs.Script.{script_of};
 
 use crate::fault_text::{bad_line, stop_status, stop_text};
 use crate::input::{Gathered, gather};
 use crate::playing::play;
 use crate::stop::Stop;
 use artery_base::{Failed, NoMemory, Sink, Source, Text, write_all};
-use artery_world::{ScriptFault, read_script};
+use artery_script::{ScriptFault, read_script};
 use std::alloc::Global;
 
 /// Writes a text.

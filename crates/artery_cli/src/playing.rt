@@ -6,63 +6,10 @@ ghost use Rattle.artery_cli.specs.declared.stop.Stop.TheVariants as stops;
 ghost use Rattle.artery_world.specs.Texts.{journal_text};
 
 use crate::stop::Stop;
-use artery_base::{
-    Address, Bytes, Failed, NoMemory, Request, Sink, SysMsg, UniqueAddress, write_all,
-};
-use artery_world::{Event, Lines, Script, World, WorldFault, journal_goes_on, print_lines};
+use artery_base::{Bytes, Failed, Sink, write_all};
+use artery_script::{Event, Script, copy_of_event};
+use artery_world::{Lines, World, WorldFault, journal_goes_on, print_lines};
 use std::alloc::Global;
-
-/// A copy of an address.
-fn copy_of_address(address: &Address) -> Result<Address, NoMemory>
-    ensures { IfOk result (λ copy. copy ≡ address.now) }
-{
-    Ok(address.clone()?)
-}
-
-/// A copy of a message.
-fn copy_of_message(message: &SysMsg) -> Result<SysMsg, NoMemory>
-    ensures { IfOk result (λ copy. copy ≡ message.now) }
-{
-    Ok(message.clone()?)
-}
-
-/// A copy of a request.
-fn copy_of_request(request: &Request) -> Result<Request, NoMemory>
-    ensures { IfOk result (λ copy. copy ≡ request.now) }
-{
-    match request {
-        Request::Pair { address } => Ok(Request::Pair {
-            address: copy_of_address(address)?,
-        }),
-        Request::Send { address, message } => Ok(Request::Send {
-            address: copy_of_address(address)?,
-            message: copy_of_message(message)?,
-        }),
-    }
-}
-
-/// A copy of a unique address.
-fn copy_of_unique(unique: &UniqueAddress) -> Result<UniqueAddress, NoMemory>
-    ensures { IfOk result (λ copy. copy ≡ unique.now) }
-{
-    Ok(unique.clone()?)
-}
-
-/// A copy of an event.
-fn copy_of_event(event: &Event) -> Result<Event, NoMemory>
-    ensures { IfOk result (λ copy. copy ≡ event.now) }
-{
-    match event {
-        Event::Start { unique } => Ok(Event::Start {
-            unique: copy_of_unique(unique)?,
-        }),
-        Event::At { uid, request } => Ok(Event::At {
-            uid: *uid,
-            request: copy_of_request(request)?,
-        }),
-        Event::Pass { rounds } => Ok(Event::Pass { rounds: *rounds }),
-    }
-}
 
 /// Writes lines of a journal.
 fn write_lines<K: Sink>(lines: &Lines, text: &mut Bytes, output: &mut K) -> Result<(), Stop>

@@ -14,8 +14,8 @@ use Rattle.artery_delivery.specs.declared.inbound.Take.TheVariants.{Taken, Again
 use Rattle.artery_delivery.specs.Outbound.{Kept, kept_acknowledged}
 use Rattle.artery_world.specs.declared.line.Line.{Line}
 use Rattle.artery_world.specs.declared.line.Line.TheVariants.{Started, Learnt, Sent, Took}
-use Rattle.artery_world.specs.declared.event.Parcel.{Parcel}
-use Rattle.artery_world.specs.declared.event.Parcel.TheVariants.{Numbered, Ack}
+use Rattle.artery_world.specs.declared.parcel.Parcel.{Parcel}
+use Rattle.artery_world.specs.declared.parcel.Parcel.TheVariants.{Numbered, Ack}
 use Rattle.artery_world.specs.Laws.{sent_of, took_of, sent_by, taken_by, IsPrefix}
 use Rattle.artery_world.specs.World.{PeerState, NodeState, LinkState, Net, World, has_uid, is_at, node_of, peer_of}
 use Rattle.artery_world.specs.Step.{in_node, in_peer, with_outbound, on_net, tells, puts, pumps, takes, arrives_from, arrives_between, arrives, arrive_all, delivers_link, delivers, delivers_first, delivers_each, pairs_up, passes, passes_times}

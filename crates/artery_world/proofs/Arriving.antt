@@ -6,8 +6,8 @@ use Rattle.artery_base.specs.declared.address.UniqueAddress.{UniqueAddress}
 use Rattle.artery_base.specs.declared.message.SysMsg.{SysMsg}
 use Rattle.artery_delivery.specs.Outbound.{kept_acknowledged}
 use Rattle.artery_world.specs.declared.line.Line.{Line}
-use Rattle.artery_world.specs.declared.event.Parcel.{Parcel}
-use Rattle.artery_world.specs.declared.event.Parcel.TheVariants.{Numbered, Ack}
+use Rattle.artery_world.specs.declared.parcel.Parcel.{Parcel}
+use Rattle.artery_world.specs.declared.parcel.Parcel.TheVariants.{Numbered, Ack}
 use Rattle.artery_world.specs.World.{NodeState, Net, World, seen, has_uid, node_of}
 use Rattle.artery_world.specs.Step.{on_net, in_peer, with_outbound, pumps, arrives_from, arrives_at, arrives_between, arrives, delivers, delivers_first, passes, passes_times}
 use Rattle.artery_world.proofs.Lists.{find_passes}

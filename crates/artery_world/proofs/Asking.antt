@@ -13,7 +13,7 @@ use Rattle.artery_base.specs.declared.message.SysMsg.{SysMsg}
 use Rattle.artery_delivery.specs.Outbound.{acceptance, kept_accepted}
 use Rattle.artery_delivery.specs.declared.outbound.Accept.{Accept}
 use Rattle.artery_delivery.specs.declared.outbound.Accept.TheVariants.{Accepted, Waiting, Overflow}
-use Rattle.artery_world.specs.declared.event.Pending.{Pending}
+use Rattle.artery_world.specs.declared.pending.Pending.{Pending}
 use Rattle.artery_world.specs.declared.fault.WorldFault.{WorldFault}
 use Rattle.artery_world.specs.declared.fault.WorldFault.TheVariants.{NotAllowed, Limit}
 use Rattle.artery_world.specs.declared.fault.WorldLimit.TheVariants as limits

@@ -19,9 +19,9 @@ use Rattle.artery_world.specs.Step.{in_node, on_net, tells}
 use Rattle.artery_world.proofs.Lists.{by_test, by_option, Each, each_weaker, each_changed, find_same, find_other, find_passes}
 use Rattle.artery_world.proofs.Journal.{Proper, same_is, same_self, other_not, sent_append, taken_append, sent_more}
 use Rattle.artery_world.proofs.Sending.{SendsRight, ParcelIsSent}
-use Rattle.artery_world.specs.declared.event.Pending.{Pending}
-use Rattle.artery_world.specs.declared.event.Parcel.{Parcel}
-use Rattle.artery_world.specs.declared.event.Parcel.TheVariants.{Numbered, Ack}
+use Rattle.artery_world.specs.declared.pending.Pending.{Pending}
+use Rattle.artery_world.specs.declared.parcel.Parcel.{Parcel}
+use Rattle.artery_world.specs.declared.parcel.Parcel.TheVariants.{Numbered, Ack}
 
 pub address_is : (a b : Address) → same_address a b ≡ true → a ≡ b
 address_is a b h = search (comparing, rules)

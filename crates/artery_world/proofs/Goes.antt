@@ -14,9 +14,9 @@ use Rattle.artery_delivery.specs.declared.inbound.Opened.TheVariants.{Opened as 
 use Rattle.artery_delivery.specs.Outbound.{Kept, nothing_kept, kept_learnt}
 use Rattle.artery_world.specs.declared.line.Line.{Line}
 use Rattle.artery_world.specs.declared.line.Line.TheVariants.{Started, Learnt, Sent, Took}
-use Rattle.artery_world.specs.declared.event.Parcel.{Parcel}
-use Rattle.artery_world.specs.declared.event.Parcel.TheVariants.{Numbered, Ack}
-use Rattle.artery_world.specs.declared.event.Pending.{Pending}
+use Rattle.artery_world.specs.declared.parcel.Parcel.{Parcel}
+use Rattle.artery_world.specs.declared.parcel.Parcel.TheVariants.{Numbered, Ack}
+use Rattle.artery_world.specs.declared.pending.Pending.{Pending}
 use Rattle.artery_world.specs.Laws.{sent_of, took_of, sent_by, taken_by, IsPrefix}
 use Rattle.artery_world.specs.Lookup.{change_first}
 use Rattle.artery_world.specs.World.{PeerState, NodeState, LinkState, Net, World, new_peer, has_uid, is_at, node_of, peer_of, same_address}

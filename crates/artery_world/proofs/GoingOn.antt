@@ -12,11 +12,11 @@ use Rattle.artery_delivery.specs.declared.inbound.Take.{Take}
 use Rattle.artery_delivery.specs.declared.inbound.Take.TheVariants.{Taken, Again, Gap}
 use Rattle.artery_delivery.specs.declared.outbound.Accept.{Accept}
 use Rattle.artery_delivery.specs.declared.outbound.Accept.TheVariants.{Accepted, Waiting, Overflow}
-use Rattle.artery_world.specs.declared.event.Event.{Event}
-use Rattle.artery_world.specs.declared.event.Event.TheVariants.{Start, At, Pass}
-use Rattle.artery_world.specs.declared.event.Parcel.{Parcel}
-use Rattle.artery_world.specs.declared.event.Parcel.TheVariants.{Numbered, Ack}
-use Rattle.artery_world.specs.declared.event.Pending.{Pending}
+use Rattle.artery_script.specs.declared.event.Event.{Event}
+use Rattle.artery_script.specs.declared.event.Event.TheVariants.{Start, At, Pass}
+use Rattle.artery_world.specs.declared.parcel.Parcel.{Parcel}
+use Rattle.artery_world.specs.declared.parcel.Parcel.TheVariants.{Numbered, Ack}
+use Rattle.artery_world.specs.declared.pending.Pending.{Pending}
 use Rattle.artery_world.specs.declared.fault.WorldFault.{WorldFault}
 use Rattle.artery_world.specs.declared.fault.WorldFault.TheVariants.{NotAllowed}
 use Rattle.artery_world.specs.declared.fault.Why.TheVariants.{OwnAddress}

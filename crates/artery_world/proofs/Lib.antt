@@ -13,7 +13,5 @@ pub mod Pumped
 pub mod Taking
 pub mod Arriving
 pub mod Asking
-pub mod Cuts
-pub mod EventLaws
 pub mod Ending
 pub mod GoingOn

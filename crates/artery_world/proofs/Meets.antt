@@ -14,7 +14,7 @@ use Rattle.artery_delivery.specs.declared.inbound.Opened.TheVariants.{Opened as 
 use Rattle.artery_delivery.specs.Outbound.{Kept, nothing_kept, kept_learnt}
 use Rattle.artery_world.specs.declared.line.Line.{Line}
 use Rattle.artery_world.specs.declared.line.Line.TheVariants.{Started, Learnt, Sent, Took}
-use Rattle.artery_world.specs.declared.event.Pending.{Pending}
+use Rattle.artery_world.specs.declared.pending.Pending.{Pending}
 use Rattle.artery_world.specs.Laws.{sent_of, took_of, sent_by, taken_by}
 use Rattle.artery_world.specs.Lookup.{change_first}
 use Rattle.artery_world.specs.World.{PeerState, NodeState, LinkState, Net, World, new_peer, has_uid, lives_at, is_at, node_of, peer_of, same_address}

@@ -4,7 +4,7 @@ use Rattle.std.specs.Prelude.{Option, None, Some, position, find}
 use Rattle.std.specs.List.{list_any}
 use Rattle.std.specs.Option.{option_and_then}
 use Rattle.artery_base.specs.declared.address.Address.{Address}
-use Rattle.artery_world.specs.declared.event.Parcel.{Parcel}
+use Rattle.artery_world.specs.declared.parcel.Parcel.{Parcel}
 use Rattle.artery_world.specs.Lookup.{change_first}
 use Rattle.artery_world.specs.World.{PeerState, NodeState, LinkState, Net, has_uid, is_at, node_of, peer_of}
 use Rattle.artery_world.specs.Step.{in_node, in_peer, with_outbound, all_written, joins, has_link, puts, parcels_of, parcels_to, pumps_over, pumps_current, pumps_peer, pumps, current_at, pumps_onto}

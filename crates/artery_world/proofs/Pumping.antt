@@ -6,8 +6,8 @@ use Rattle.std.proofs.lemmas.Bool.Decides.{nat_tests}
 use Rattle.artery_base.specs.declared.message.SysMsg.{SysMsg}
 use Rattle.artery_delivery.specs.Outbound.{Kept, given, next_to_write, kept_pumped}
 use Rattle.artery_delivery.specs.declared.outbound.TheConstants.{WINDOW}
-use Rattle.artery_world.specs.declared.event.Parcel.{Parcel}
-use Rattle.artery_world.specs.declared.event.Parcel.TheVariants.{Numbered, Ack}
+use Rattle.artery_world.specs.declared.parcel.Parcel.{Parcel}
+use Rattle.artery_world.specs.declared.parcel.Parcel.TheVariants.{Numbered, Ack}
 use Rattle.artery_world.specs.Step.{numbered, last_to_write, parcels_of, all_written}
 
 pub drop_get : (ms : List SysMsg) (i : ℕ) (m : SysMsg) → slice_get ms i ≡ Some m → (drop i ms ≡ m ∷ drop (i + 1) ms) × (i < length ms)

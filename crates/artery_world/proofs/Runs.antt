@@ -14,16 +14,16 @@ use Rattle.artery_delivery.specs.Inbound.{same_origin}
 use Rattle.artery_delivery.specs.Outbound.{Kept, given, is_full, acceptance, kept_accepted}
 use Rattle.artery_delivery.specs.declared.outbound.Accept.{Accept}
 use Rattle.artery_delivery.specs.declared.outbound.Accept.TheVariants.{Accepted, Waiting, Overflow}
-use Rattle.artery_world.specs.declared.event.Event.{Event}
-use Rattle.artery_world.specs.declared.event.Event.TheVariants.{Start, At, Pass}
-use Rattle.artery_world.specs.declared.event.Pending.{Pending}
+use Rattle.artery_script.specs.declared.event.Event.{Event}
+use Rattle.artery_script.specs.declared.event.Event.TheVariants.{Start, At, Pass}
+use Rattle.artery_world.specs.declared.pending.Pending.{Pending}
 use Rattle.artery_world.specs.declared.fault.Why.TheVariants.{UsedUid, AddressLive}
 use Rattle.artery_world.specs.declared.fault.WorldLimit.TheVariants as limits
 use Rattle.artery_world.specs.declared.fault.WorldFault.{WorldFault}
 use Rattle.artery_world.specs.declared.fault.WorldFault.TheVariants.{NotAllowed, Limit}
 use Rattle.artery_world.specs.declared.line.Line.{Line}
 use Rattle.artery_world.specs.declared.line.Line.TheVariants.{Started, Learnt, Sent, Took}
-use Rattle.artery_world.specs.declared.script.ScriptLine.{ScriptLine}
+use Rattle.artery_script.specs.declared.script.ScriptLine.{ScriptLine}
 use Rattle.artery_world.specs.declared.world.TheConstants.{MOST_NODES}
 use Rattle.artery_world.specs.Laws.{sent_of, took_of, sent_by, taken_by, IsPrefix, IsLawful}
 use Rattle.artery_world.specs.Lookup.{change_first}

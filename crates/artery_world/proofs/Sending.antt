@@ -9,8 +9,8 @@ use Rattle.artery_delivery.specs.Outbound.{Kept, given, is_full, acceptance, kep
 use Rattle.artery_delivery.specs.declared.outbound.TheConstants.{WINDOW}
 use Rattle.artery_delivery.specs.declared.outbound.Accept.{Accept}
 use Rattle.artery_delivery.specs.declared.outbound.Accept.TheVariants.{Accepted, Waiting, Overflow}
-use Rattle.artery_world.specs.declared.event.Parcel.{Parcel}
-use Rattle.artery_world.specs.declared.event.Parcel.TheVariants.{Numbered, Ack}
+use Rattle.artery_world.specs.declared.parcel.Parcel.{Parcel}
+use Rattle.artery_world.specs.declared.parcel.Parcel.TheVariants.{Numbered, Ack}
 use Rattle.artery_world.specs.Laws.{Numbered as Pair}
 use Rattle.artery_world.specs.Step.{numbered, last_to_write, parcels_of, all_written}
 use Rattle.artery_world.proofs.Lists.{by_test, on_cond, Each}

@@ -10,7 +10,7 @@ use Rattle.artery_delivery.specs.declared.inbound.TheConstants.{NEVER_EXPECTED}
 use Rattle.artery_delivery.specs.declared.inbound.Take.{Take}
 use Rattle.artery_delivery.specs.declared.inbound.Take.TheVariants.{Taken, Again, Gap}
 use Rattle.artery_world.specs.declared.line.Line.{Line}
-use Rattle.artery_world.specs.declared.event.Parcel.TheVariants.{Numbered, Ack}
+use Rattle.artery_world.specs.declared.parcel.Parcel.TheVariants.{Numbered, Ack}
 use Rattle.artery_world.specs.declared.line.Line.TheVariants.{Took}
 use Rattle.artery_world.specs.Lookup.{change_first}
 use Rattle.artery_world.specs.World.{NodeState, Net, World, seen, has_uid, node_of}

@@ -34,6 +34,7 @@ abbrev pub taken_by : UniqueAddress → UniqueAddress → List Line → List Num
 taken_by b a [] = []
 taken_by b a (line ∷ lines) = took_of b a line ++ taken_by b a lines
 
+-- a list is a prefix of another that is the same list with something, or nothing, behind it
 abbrev pub IsPrefix : {X : Type 0} → List X → List X → Type 0
 IsPrefix {X} xs ys = (rest : List X) × (xs ++ rest ≡ ys)
 

@@ -4,4 +4,3 @@ pub mod Step
 pub mod Laws
 pub mod Replay
 pub mod Texts
-pub mod Script

@@ -1,14 +1,8 @@
 -- The texts of journal lines.
 use Rattle.std.specs.Prelude.{ℕ, List, [], ◌∷◌, ◌++◌, codes, decimal, flat_map}
-use Rattle.std.specs.Fmt.{signed_decimal}
-use Rattle.artery_base.specs.Spelling.{unique_text, word_text, hex_text}
-use Rattle.artery_base.specs.declared.message.SysMsg.{SysMsg}
+use Rattle.artery_base.specs.Spelling.{unique_text, message_text}
 use Rattle.artery_world.specs.declared.line.Line.{Line}
 use Rattle.artery_world.specs.declared.line.Line.TheVariants.{Started, Learnt, Sent, Took}
-
--- a system message: its serializer, its manifest as a word, its payload in hexadecimal
-abbrev pub message_text : SysMsg → List ℕ
-message_text m = signed_decimal m.serializer ++ codes " " ++ word_text m.manifest ++ codes " " ++ hex_text m.payload
 
 -- a line of a journal, without its line feed: who, what it did, and with whom, which number and what message
 abbrev pub line_text : Line → List ℕ

@@ -4,8 +4,8 @@ use Rattle.artery_base.specs.declared.address.Address.{Address}
 use Rattle.artery_base.specs.declared.address.UniqueAddress.{UniqueAddress}
 use Rattle.artery_base.specs.contracts.address.AddressPartialEq.TheImpl as address_eq
 use Rattle.artery_delivery.specs.Outbound.{Kept, nothing_kept}
-use Rattle.artery_world.specs.declared.event.Parcel.{Parcel}
-use Rattle.artery_world.specs.declared.event.Pending.{Pending}
+use Rattle.artery_world.specs.declared.parcel.Parcel.{Parcel}
+use Rattle.artery_world.specs.declared.pending.Pending.{Pending}
 use Rattle.artery_world.specs.declared.line.Line.{Line}
 use Rattle.artery_world.specs.declared.fault.WorldFault.{WorldFault}
 
@@ -51,24 +51,31 @@ seen net lines = record { net = net; journal = lines }
 abbrev pub nothing : World
 nothing = record { net = record { started = []; live = []; pending = []; links = [] }; journal = [] }
 
+-- of a new peer no UID is learnt, and nothing is kept for it
 abbrev pub new_peer : Address → PeerState
 new_peer address = record { address = address; current = None; outbound = nothing_kept }
 
+-- a new incarnation has no peers, and no origin is open to it
 abbrev pub new_node : UniqueAddress → NodeState
 new_node me = record { me = me; peers = []; inbound = [] }
 
+-- whether an incarnation has this UID
 abbrev pub has_uid : ℕ → NodeState → Bool
 has_uid uid n = n.me.uid == uid
 
+-- whether an incarnation lives at this address
 abbrev pub lives_at : Address → NodeState → Bool
 lives_at address n = same_address n.me.address address
 
+-- whether a peer is the one at this address
 abbrev pub is_at : Address → PeerState → Bool
 is_at address p = same_address p.address address
 
+-- the live incarnation with this UID, if there is one
 abbrev pub node_of : ℕ → Net → Option NodeState
 node_of uid net = find (has_uid uid) net.live
 
+-- the peer at this address that the live incarnation with this UID has, if there is one
 abbrev pub peer_of : ℕ → Address → Net → Option PeerState
 peer_of uid address net = option_and_then (λ n. find (is_at address) n.peers) (node_of uid net)
 

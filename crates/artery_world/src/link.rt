@@ -3,8 +3,8 @@ ghost use Rattle.artery_world.specs.Lookup.{change_first};
 ghost use Rattle.artery_world.specs.World.{LinkState, is_at};
 ghost use Rattle.artery_world.specs.Step.{joins, new_link, with_outbound, all_written, parcels_to};
 
-use crate::event::Parcel;
 use crate::node::Node;
+use crate::parcel::Parcel;
 use artery_base::{Address, NoMemory};
 use std::alloc::Global;
 use std::collections::VecDeque;

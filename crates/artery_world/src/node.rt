@@ -6,11 +6,11 @@ ghost use Rattle.artery_world.specs.Lookup.{change_first};
 ghost use Rattle.artery_world.specs.World.{NodeState, new_node, has_uid, lives_at, is_at};
 ghost use Rattle.artery_world.specs.Step.{with_outbound, learnt_peer, all_written, knows, with_peer, opens, parcels_to, takes_next, counted};
 
-use crate::copies::copy_of_address;
-use crate::event::Parcel;
+use crate::parcel::Parcel;
 use crate::peer::Peer;
 use artery_base::{Address, NoMemory, SysMsg, UniqueAddress};
 use artery_delivery::{Accept, Inbound, Take};
+use artery_script::copy_of_address;
 use std::alloc::Global;
 use std::collections::VecDeque;
 use std::marker::Model;

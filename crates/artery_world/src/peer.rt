@@ -6,12 +6,12 @@ ghost use Rattle.artery_world.specs.declared.line.Line.TheVariants as lines;
 ghost use Rattle.artery_world.specs.Lookup.{Grows};
 ghost use Rattle.artery_world.specs.Step.{with_outbound, learnt_peer, parcels_of, all_written, sent_lines};
 
-use crate::copies::{copy_of_message, copy_of_unique};
-use crate::event::Parcel;
 use crate::line::Line;
 use crate::lines::Lines;
+use crate::parcel::Parcel;
 use artery_base::{Address, NoMemory, SysMsg, UniqueAddress};
 use artery_delivery::{Accept, Outbound};
+use artery_script::{copy_of_message, copy_of_unique};
 use std::alloc::Global;
 use std::collections::VecDeque;
 use std::marker::Model;

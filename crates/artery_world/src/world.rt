@@ -3,10 +3,10 @@ ghost use Rattle.artery_world.specs.Lookup.{Grows};
 ghost use Rattle.artery_world.specs.World.{Running, seen, nothing};
 ghost use Rattle.artery_world.specs.Step.{step, Happens, KeepsNet, end_of};
 
-use crate::event::Event;
 use crate::fault::WorldFault;
 use crate::lines::Lines;
 use crate::network::Network;
+use artery_script::Event;
 use std::alloc::Global;
 use std::marker::Model;
 

@@ -1,5 +1,5 @@
-use Rattle.artery_world.proofs.EventLaws.{event_of-Some, event_of-event_text}
-use Rattle.artery_world.proofs.spelling.events_are_spelled.Goals as goal
+use Rattle.artery_script.proofs.EventLaws.{event_of-Some, event_of-event_text}
+use Rattle.artery_script.proofs.spelling.events_are_spelled.Goals as goal
 
 pub returns-clause-told : goal.returns-clause-told
 returns-clause-told c = event_of-event_text

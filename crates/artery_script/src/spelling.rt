@@ -1,7 +1,7 @@
 //! Laws of the texts of events. Their functions do nothing.
 ghost use Rattle.std.specs.Prelude.{◌≡◌, ℕ, List, Some};
-ghost use Rattle.artery_world.specs.declared.event.Event.{Event};
-ghost use Rattle.artery_world.specs.Script.{IsEvent, EventHasBytes, event_text, event_of};
+ghost use Rattle.artery_script.specs.declared.event.Event.{Event};
+ghost use Rattle.artery_script.specs.Script.{IsEvent, EventHasBytes, event_text, event_of};
 
 /// A law, with no code: the text of an event tells it; and a line that tells an event is that
 /// event's text, and the event is one that a line can tell.

@@ -1,14 +1,14 @@
-ghost use Rattle.std.specs.Prelude.{◌≡◌, ℕ, ◌<◌, ◌≤◌, ◌==◌, [], ◌∷◌, List, length, take, drop, position, IfSome, IfNone};
-ghost use Rattle.artery_base.specs.Reading.{address_memory, word_memory, number_of, int32_of};
-ghost use Rattle.artery_world.specs.Script.{Tells, line_fault, is_space, tokens_of, address_told, manifest_told, payload_told, message_of, message_in, pair_in, send_in, request_in, start_of, start_in, at_in, rounds_of, pass_in, event_in, event_of};
+ghost use Rattle.artery_base.specs.Reading.{number_of, int32_of};
+ghost use Rattle.artery_lines.specs.Lines.{Tells};
+ghost use Rattle.artery_script.specs.Script.{address_told, manifest_told, payload_told, message_of, message_in, pair_in, send_in, request_in, start_of, start_in, at_in, rounds_of, pass_in, event_in, event_of};
 
 use crate::event::Event;
 use artery_base::{
-    Address, AddressFault, Bytes, Request, SysMsg, UniqueAddress, WordFault, read_address,
-    read_hex, read_int32, read_number, read_word,
+    Address, Bytes, Request, SysMsg, UniqueAddress, read_address, read_hex, read_int32,
+    read_number, read_word,
 };
+use artery_lines::{LineFault, Tokens};
 use std::alloc::Global;
-use std::marker::Model;
 
 /// The most rounds that one line lets pass.
 pub const MOST_ROUNDS: u64 = 1_000;
@@ -17,121 +17,14 @@ pub const MOST_MANIFEST: usize = 4_096;
 /// The most bytes of a payload in a script.
 pub const MOST_PAYLOAD: usize = 131_072;
 
-/// Why a line tells no event.
-#[derive(Clone, Copy, Debug, PartialEq, Eq)]
-pub enum LineFault {
-    /// It is the line of no event.
-    BadLine,
-    /// Memory ran out.
-    NoMemory,
-}
-
-impl From<AddressFault> for LineFault {
-    ghost from_gives = { λ e f. f ≡ line_fault (address_memory e) };
-
-    fn from(fault: AddressFault) -> LineFault {
-        match fault {
-            AddressFault::NoMemory => LineFault::NoMemory,
-            _ => LineFault::BadLine,
-        }
-    }
-}
-
-impl From<WordFault> for LineFault {
-    ghost from_gives = { λ e f. f ≡ line_fault (word_memory e) };
-
-    fn from(fault: WordFault) -> LineFault {
-        match fault {
-            WordFault::NoMemory => LineFault::NoMemory,
-            WordFault::BadWord { at: _ } => LineFault::BadLine,
-        }
-    }
-}
-
-/// The tokens of a line that are left to read, which spaces part.
-#[derive(Drop)]
-struct Tokens<'a> {
-    text: &'a [u8],
-    ended: bool,
-}
-
-impl<'a> Model for Tokens<'a> {
-    ghost use Rattle.std.specs.Prelude.{ℕ, List, [], if◌then◌else◌};
-    ghost use Rattle.artery_world.specs.Script.{tokens_of};
-
-    ghost Value = { List (List ℕ) };
-
-    ghost view = { λ t. if t.ended then [] else tokens_of t.text.now };
-}
-
-impl<'a> Tokens<'a> {
-    fn new(line: &'a [u8]) -> Tokens<'a>
-        ensures { result ≡ tokens_of line.now }
-    {
-        Tokens {
-            text: line,
-            ended: false,
-        }
-    }
-
-    /// Takes the next token; `None` where there is none.
-    #[tactic(auto, using(crate::proofs::Cuts::cut_at, crate::proofs::Cuts::cut_none))]
-    fn next(&mut self) -> Option<&'a [u8]>
-        ensures some { IfSome result (λ token. self.old ≡ token.now ∷ self.new) }
-        ensures none { IfNone result (self.old ≡ []) }
-    {
-        if self.ended {
-            return None;
-        }
-        let text = self.text;
-        let Some(at) = find_space(text) else {
-            self.ended = true;
-            return Some(text);
-        };
-        self.text = after(text, at + 1);
-        Some(before(text, at))
-    }
-
-    /// Whether no token is left.
-    #[tactic(auto, using(crate::proofs::Cuts::cuts_some))]
-    fn is_empty(&self) -> bool
-        ensures { result ≡ (length self.now == 0) }
-    {
-        self.ended
-    }
-}
-
-/// The first `at` bytes of a text.
-pub(crate) fn before(text: &[u8], at: usize) -> &[u8]
-    requires { at ≤ length text.now }
-    ensures { result.now ≡ take at text.now }
-{
-    &text[..at]
-}
-
-/// What stands behind the first `at` bytes of a text.
-pub(crate) fn after(text: &[u8], at: usize) -> &[u8]
-    requires { at ≤ length text.now }
-    ensures { result.now ≡ drop at text.now }
-{
-    &text[at..]
-}
-
-fn find_space(text: &[u8]) -> Option<usize>
-    ensures found { result ≡ position is_space text.now }
-    ensures within { IfSome result (λ at. at < length text.now) }
-{
-    text.iter().position(|byte| *byte == b' ')
-}
-
-#[tactic(auto, using(crate::proofs::Cuts::tells_address))]
+#[tactic(auto, using(artery_lines::proofs::Cuts::tells_address))]
 fn read_where(alloc: Global, token: &[u8]) -> Result<Address, LineFault>
     ensures { Tells result (address_told token.now) }
 {
     Ok(read_address(alloc, token)?)
 }
 
-#[tactic(auto, using(crate::proofs::Cuts::tells_bytes))]
+#[tactic(auto, using(artery_lines::proofs::Cuts::tells_bytes))]
 fn read_manifest(alloc: Global, token: &[u8]) -> Result<Bytes, LineFault>
     ensures { Tells result (manifest_told token.now) }
 {
@@ -142,7 +35,7 @@ fn read_manifest(alloc: Global, token: &[u8]) -> Result<Bytes, LineFault>
     Ok(manifest)
 }
 
-#[tactic(auto, using(crate::proofs::Cuts::tells_bytes))]
+#[tactic(auto, using(artery_lines::proofs::Cuts::tells_bytes))]
 fn read_payload(alloc: Global, token: &[u8]) -> Result<Bytes, LineFault>
     ensures { Tells result (payload_told token.now) }
 {

@@ -1,23 +1,20 @@
 -- What is read from a line of a script is spelled so, and what is spelled is read.
-use Rattle.std.proofs.Common.{◌≡◌, ℕ, zero, suc, ◌+◌, ◌-◌, ◌^◌, ◌<◌, ◌≤◌, Bool, true, false, not, cond, eqb, ltb, leb, List, [], ◌∷◌, ◌++◌, length, Option, Some, None, Result, Ok, Err, refl, sym, ap, ◌∙◌, arith, rules, append_assoc, subst, inl, inr, ◌⊎◌}
-use Rattle.std.specs.Prelude.{codes, decimal, bytes_eq, FitsSigned, ℤ}
+use Rattle.std.proofs.Common.{◌≡◌, ℕ, ◌^◌, ◌<◌, ◌≤◌, Bool, true, false, not, cond, ltb, List, [], ◌∷◌, ◌++◌, length, Option, Some, None, Result, Ok, Err, refl, sym, ap, ◌∙◌, arith, append_assoc, subst, inl, inr, ◌⊎◌}
+use Rattle.std.specs.Prelude.{codes, decimal, bytes_eq}
 use Rattle.std.specs.Fmt.{signed_decimal}
-use Rattle.std.specs.Int.{w32, is_in_range}
-use Rattle.std.specs.List.{list_all, slice_split, join_with_byte}
+use Rattle.std.specs.Int.{is_in_range}
+use Rattle.std.specs.List.{list_all, join_with_byte}
 use Rattle.std.specs.Result.{result_ok}
 use Rattle.std.proofs.lemmas.Bool.Decides.{nat_tests}
 use Rattle.std.proofs.lemmas.Bool.{ltb-false, le-ltb}
-use Rattle.std.proofs.lemmas.List.{append-nil}
 use Rattle.std.proofs.lemmas.List.Splits.{join_with_byte-slice_split}
 use Rattle.std.proofs.lemmas.Slice.Eq.{bytes_eq-Decides}
 use Rattle.artery_base.specs.declared.address.Address.{Address}
 use Rattle.artery_base.specs.declared.address.UniqueAddress.{UniqueAddress}
-use Rattle.artery_base.specs.declared.fault.AddressFault.{AddressFault}
-use Rattle.artery_base.specs.declared.fault.WordFault.{WordFault}
 use Rattle.artery_base.specs.declared.message.SysMsg.{SysMsg}
 use Rattle.artery_base.specs.declared.message.Request.{Request}
 use Rattle.artery_base.specs.declared.message.Request.TheVariants.{Pair, Send}
-use Rattle.artery_base.specs.Spelling.{AreBytes, IsToken, IsAddress, IsUniqueAddress, address_text, word_text, hex_text, is_visible}
+use Rattle.artery_base.specs.Spelling.{AreBytes, IsToken, IsAddress, address_text, word_text, hex_text, message_text, is_visible}
 use Rattle.artery_base.specs.Reading.{number_of, int32_of, word_of, hex_of, address_of}
 use Rattle.artery_base.proofs.Decimals.{number_of-Some, int32_of-Some, number_of-decimal, int32_of-signed}
 use Rattle.artery_base.proofs.HexPairs.{hex_of-Ok, hex_of-hex_text, not_zero}
@@ -25,12 +22,12 @@ use Rattle.artery_base.proofs.WordPieces.{word_of-Ok, word_of-word_text}
 use Rattle.artery_base.proofs.AddressLaws.{address_of-Ok, address_of-address_text}
 use Rattle.artery_base.proofs.Tokens.{decimal_token, signed_token, hex_token, word_token, address_token}
 use Rattle.artery_base.proofs.Places.{all_weaker}
-use Rattle.artery_world.specs.declared.event.Event.{Event}
-use Rattle.artery_world.specs.declared.event.Event.TheVariants.{Start, At, Pass}
-use Rattle.artery_world.specs.declared.event_text.TheConstants.{MOST_ROUNDS, MOST_MANIFEST, MOST_PAYLOAD}
-use Rattle.artery_world.specs.Texts.{message_text}
-use Rattle.artery_world.specs.Script.{request_text, event_text, IsMessage, IsRequest, IsEvent, HasBytes, RequestHasBytes, EventHasBytes, ◌>>=◌, is_space, tokens_of, at_end, no_longer, address_told, manifest_told, payload_told, message_of, message_in, pair_in, send_in, request_in, start_of, start_in, at_in, rounds_of, pass_in, event_in, event_of}
-use Rattle.artery_world.proofs.Cuts.{whole_part, first_part}
+use Rattle.artery_script.specs.declared.event.Event.{Event}
+use Rattle.artery_script.specs.declared.event.Event.TheVariants.{Start, At, Pass}
+use Rattle.artery_script.specs.declared.event_text.TheConstants.{MOST_ROUNDS, MOST_MANIFEST, MOST_PAYLOAD}
+use Rattle.artery_script.specs.Script.{request_text, event_text, IsMessage, IsRequest, IsEvent, HasBytes, RequestHasBytes, EventHasBytes, no_longer, address_told, manifest_told, payload_told, message_of, message_in, pair_in, send_in, request_in, start_of, start_in, at_in, rounds_of, pass_in, event_in, event_of}
+use Rattle.artery_lines.specs.Lines.{◌>>=◌, is_space, tokens_of, at_end}
+use Rattle.artery_lines.proofs.Cuts.{whole_part, first_part}
 
 -- ---- readings that gave something
 

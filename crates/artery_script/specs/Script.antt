@@ -1,26 +1,21 @@
--- What a script tells: its lines, and the event that each of them tells.
-use Rattle.std.specs.Prelude.{◌≡◌, ℕ, ◌+◌, ◌^◌, ◌<◌, ◌≤◌, Bool, true, false, ◌||◌, ◌==◌, nat_lt, if◌then◌else◌, List, [], ◌∷◌, ◌++◌, length, codes, decimal, bytes_eq, slice_index, Option, None, Some, Result, Ok, Err, FitsSigned, ℤ}
+-- What a script tells: the event of each of its lines.
+use Rattle.std.specs.Prelude.{ℕ, ◌+◌, ◌^◌, ◌<◌, ◌≤◌, Bool, true, false, ◌==◌, nat_lt, if◌then◌else◌, List, [], ◌∷◌, ◌++◌, length, codes, decimal, bytes_eq, slice_index, Option, None, Some, Result, Ok, Err, FitsSigned}
 use Rattle.std.specs.Int.{w32, is_in_range}
-use Rattle.std.specs.List.{slice_split}
 use Rattle.std.specs.Result.{result_ok}
 use Rattle.artery_base.specs.declared.address.Address.{Address}
-use Rattle.artery_base.specs.declared.address.UniqueAddress.{UniqueAddress}
-use Rattle.artery_base.specs.declared.fault.WordFault.{WordFault}
 use Rattle.artery_base.specs.declared.message.SysMsg.{SysMsg}
 use Rattle.artery_base.specs.declared.message.Request.{Request}
 use Rattle.artery_base.specs.declared.message.Request.TheVariants.{Pair, Send}
-use Rattle.artery_base.specs.Spelling.{AreBytes, IsAddress, IsUniqueAddress, address_text}
+use Rattle.artery_base.specs.Spelling.{AreBytes, IsAddress, IsUniqueAddress, address_text, message_text}
 use Rattle.artery_base.specs.Reading.{number_of, int32_of, hex_of, word_of, address_of}
-use Rattle.artery_world.specs.declared.event.Event.{Event}
-use Rattle.artery_world.specs.declared.event.Event.TheVariants.{Start, At, Pass}
-use Rattle.artery_world.specs.declared.script.ScriptLine.{ScriptLine}
-use Rattle.artery_world.specs.declared.script.ScriptFault.{ScriptFault}
-use Rattle.artery_world.specs.declared.script.ScriptFault.TheVariants as script_faults
-use Rattle.artery_world.specs.declared.script.TheConstants.{MOST_LINES}
-use Rattle.artery_world.specs.declared.event_text.TheConstants.{MOST_ROUNDS, MOST_MANIFEST, MOST_PAYLOAD}
-use Rattle.artery_world.specs.declared.event_text.LineFault.{LineFault}
-use Rattle.artery_world.specs.declared.event_text.LineFault.TheVariants as line_faults
-use Rattle.artery_world.specs.Texts.{message_text}
+use Rattle.artery_script.specs.declared.event.Event.{Event}
+use Rattle.artery_script.specs.declared.event.Event.TheVariants.{Start, At, Pass}
+use Rattle.artery_script.specs.declared.script.ScriptLine.{ScriptLine}
+use Rattle.artery_script.specs.declared.script.ScriptFault.{ScriptFault}
+use Rattle.artery_script.specs.declared.script.ScriptFault.TheVariants as script_faults
+use Rattle.artery_lines.specs.declared.lines.TheConstants.{MOST_LINES}
+use Rattle.artery_lines.specs.Lines.{◌>>=◌, tokens_of, at_end, lines_of}
+use Rattle.artery_script.specs.declared.event_text.TheConstants.{MOST_ROUNDS, MOST_MANIFEST, MOST_PAYLOAD}
 
 -- ---- the text of an event
 
@@ -57,32 +52,18 @@ pub record HasBytes (m : SysMsg) : Type 0 where
   pub manifest : AreBytes m.manifest
   pub payload : AreBytes m.payload
 
+-- the message of a request to send is made of bytes; a request to pair has no message
 abbrev pub RequestHasBytes : Request → Type 0
 RequestHasBytes (Pair address) = Unit {0}
 RequestHasBytes (Send address message) = HasBytes message
 
+-- the message that an event asks to send is made of bytes; other events have none
 abbrev pub EventHasBytes : Event → Type 0
 EventHasBytes (Start unique) = Unit {0}
 EventHasBytes (At uid request) = RequestHasBytes request
 EventHasBytes (Pass rounds) = Unit {0}
 
 -- ---- reading an event
-
-infixl 10 ◌>>=◌
-abbrev pub ◌>>=◌ : {A B : Type 0} → Option A → (A → Option B) → Option B
-None >>= f = None
-(Some x) >>= f = f x
-
--- the tokens of a line: what stands before, between and behind its spaces
-abbrev pub is_space : ℕ → Bool
-is_space b = b == 32
-
-abbrev pub tokens_of : List ℕ → List (List ℕ)
-tokens_of text = slice_split is_space text
-
--- what was read, where no token is left
-abbrev pub at_end : {X : Type 0} → List (List ℕ) → Option X → Option X
-at_end left o = if length left == 0 then o else None
 
 -- bytes, where they are no more than this
 abbrev pub no_longer : ℕ → List ℕ → Option (List ℕ)
@@ -100,6 +81,7 @@ manifest_told text = result_ok (word_of text) >>= no_longer MOST_MANIFEST
 abbrev pub payload_told : List ℕ → Option (List ℕ)
 payload_told text = result_ok (hex_of text) >>= no_longer MOST_PAYLOAD
 
+-- a message from the tokens of its serializer, its manifest and its payload
 abbrev pub message_of : List ℕ → List ℕ → List ℕ → Option SysMsg
 message_of serializer manifest payload = do
   s ← int32_of serializer
@@ -134,6 +116,7 @@ request_in (word ∷ fields) = if bytes_eq word (codes "pair") then pair_in fiel
     else if bytes_eq word (codes "send") then send_in fields
     else None
 
+-- a start from the tokens of the address and the UID
 abbrev pub start_of : List ℕ → List ℕ → Option Event
 start_of address uid = do
   a ← address_told address
@@ -175,30 +158,7 @@ event_in (word ∷ fields) = if bytes_eq word (codes "start") then start_in fiel
 abbrev pub event_of : List ℕ → Option Event
 event_of text = event_in (tokens_of text)
 
--- reading gives what is told, unless memory ran out
-abbrev pub Tells : {X : Type 0} → Result X LineFault → Option X → Type 0
-Tells (Ok x) told = told ≡ Some x
-Tells (Err line_faults.BadLine) told = told ≡ None
-Tells (Err line_faults.NoMemory) told = Unit {0}
-
--- a fault of a part as one of the line
-abbrev pub line_fault : Bool → LineFault
-line_fault is_memory = if is_memory then line_faults.NoMemory else line_faults.BadLine
-
 -- ---- reading a script
-
-abbrev pub is_feed : ℕ → Bool
-is_feed b = b == 10
-
--- the parts of a text, where an empty last part counts for none
-abbrev pub without_empty_end : List (List ℕ) → List (List ℕ)
-without_empty_end [] = []
-without_empty_end (line ∷ []) = if length line == 0 then [] else line ∷ []
-without_empty_end (line ∷ next ∷ rest) = line ∷ without_empty_end (next ∷ rest)
-
--- the lines of a text; the last may lack its line feed
-abbrev pub lines_of : List ℕ → List (List ℕ)
-lines_of text = without_empty_end (slice_split is_feed text)
 
 -- empty lines and remarks are passed over
 abbrev pub is_passed_over : List ℕ → Bool
@@ -209,6 +169,7 @@ abbrev pub before_others : ScriptLine → Result (List ScriptLine) ScriptFault �
 before_others l (Ok others) = Ok (l ∷ others)
 before_others l (Err fault) = Err fault
 
+-- what is told from this line on: its event before those of the lines behind it; a line that tells none is the first bad one
 abbrev pub at_line : ℕ → Option Event → Result (List ScriptLine) ScriptFault → Result (List ScriptLine) ScriptFault
 at_line n None others = Err (script_faults.BadLine n)
 at_line n (Some event) others = before_others (record { line = n; event = event }) others

@@ -1,18 +1,17 @@
-ghost use Rattle.std.specs.Prelude.{◌≡◌, ℕ, ◌+◌, ◌<◌, ◌≤◌, ◌==◌, [], ◌∷◌, ◌++◌, List, length, position, IfSome, IfNone, OnOk, OnErr, not, nat_lt};
+ghost use Rattle.std.specs.Prelude.{◌≡◌, ◌≤◌, ◌==◌, [], ◌∷◌, ◌++◌, length, OnOk, OnErr};
 ghost use Rattle.artery_base.specs.Reading.{Gives};
-ghost use Rattle.artery_world.specs.declared.script.ScriptLine.{ScriptLine};
-ghost use Rattle.artery_world.specs.declared.script.ScriptFault.TheVariants as script_faults;
-ghost use Rattle.artery_world.specs.declared.script.TheConstants.{MOST_LINES};
-ghost use Rattle.artery_world.specs.Script.{is_feed, lines_of, is_passed_over, event_of, told_at, events_from, script_of, script_memory};
+ghost use Rattle.artery_script.specs.declared.script.ScriptLine.{ScriptLine};
+ghost use Rattle.artery_script.specs.declared.script.ScriptFault.TheVariants as script_faults;
+ghost use Rattle.artery_lines.specs.declared.lines.TheConstants.{MOST_LINES};
+ghost use Rattle.artery_lines.specs.Lines.{lines_of};
+ghost use Rattle.artery_script.specs.Script.{is_passed_over, event_of, told_at, events_from, script_of, script_memory};
 
 use crate::event::Event;
-use crate::event_text::{LineFault, after, before, read_event};
+use crate::event_text::read_event;
 use artery_base::NoMemory;
+use artery_lines::{LineFault, TextLines, has_few_lines};
 use std::alloc::Global;
 use std::marker::Model;
-
-/// The most lines of a script.
-pub const MOST_LINES: usize = 1_000_000;
 
 /// A line of a script: its number, counted from 1, and what it tells.
 #[derive(Clone, Debug, PartialEq, Eq, Drop)]
@@ -50,7 +49,7 @@ pub struct Script {
 
 impl Model for Script {
     ghost use Rattle.std.specs.Prelude.{List};
-    ghost use Rattle.artery_world.specs.declared.script.ScriptLine.{ScriptLine};
+    ghost use Rattle.artery_script.specs.declared.script.ScriptLine.{ScriptLine};
 
     ghost Value = { List ScriptLine };
 
@@ -98,69 +97,6 @@ impl Script {
     }
 }
 
-/// The lines of a text that are left to read.
-#[derive(Drop)]
-struct LinesLeft<'a> {
-    text: &'a [u8],
-}
-
-impl<'a> Model for LinesLeft<'a> {
-    ghost use Rattle.std.specs.Prelude.{ℕ, List};
-    ghost use Rattle.artery_world.specs.Script.{lines_of};
-
-    ghost Value = { List (List ℕ) };
-
-    ghost view = { λ l. lines_of l.text.now };
-}
-
-impl<'a> LinesLeft<'a> {
-    fn new(text: &'a [u8]) -> LinesLeft<'a>
-        ensures { result ≡ lines_of text.now }
-    {
-        LinesLeft { text }
-    }
-
-    /// Takes the next line; `None` where there is none.
-    #[tactic(auto, using(crate::proofs::Cuts::line_at, crate::proofs::Cuts::line_last, crate::proofs::Cuts::no_line))]
-    fn next(&mut self) -> Option<&'a [u8]>
-        ensures some { IfSome result (λ line. self.old ≡ line.now ∷ self.new) }
-        ensures none { IfNone result (self.old ≡ []) }
-    {
-        let text = self.text;
-        if text.is_empty() {
-            return None;
-        }
-        let Some(at) = find_feed(text) else {
-            self.text = after(text, text.len());
-            return Some(text);
-        };
-        self.text = after(text, at + 1);
-        Some(before(text, at))
-    }
-}
-
-fn find_feed(text: &[u8]) -> Option<usize>
-    ensures found { result ≡ position is_feed text.now }
-    ensures within { IfSome result (λ at. at < length text.now) }
-{
-    text.iter().position(|byte| *byte == b'\n')
-}
-
-// Whether a text has no more lines than a script may have.
-fn has_few_lines(text: &[u8]) -> bool
-    ensures { result ≡ not (nat_lt MOST_LINES (length (lines_of text.now))) }
-{
-    let mut left = LinesLeft::new(text);
-    let mut count = 0;
-    while let Some(_line) = left.next() {
-        if count == MOST_LINES {
-            return false;
-        }
-        count += 1;
-    }
-    true
-}
-
 fn is_passed_over(line: &[u8]) -> bool
     ensures { result ≡ is_passed_over line.now }
 {
@@ -180,12 +116,12 @@ fn event_at(alloc: Global, n: u64, line: &[u8]) -> Result<Event, ScriptFault>
     }
 }
 
-#[tactic(auto, using(crate::proofs::Cuts::passed_on, crate::proofs::Cuts::event_on, crate::proofs::Cuts::event_fails, crate::proofs::Cuts::events_end))]
+#[tactic(auto, using(crate::proofs::Events::passed_on, crate::proofs::Events::event_on, crate::proofs::Events::event_fails, crate::proofs::Events::events_end))]
 fn read_lines(alloc: Global, text: &[u8]) -> Result<Script, ScriptFault>
     requires { length (lines_of text.now) ≤ MOST_LINES }
     ensures { Gives script_memory result (events_from 1 (lines_of text.now)) }
 {
-    let mut left = LinesLeft::new(text);
+    let mut left = TextLines::new(text);
     let mut script = Script::new(alloc);
     let mut n = 0;
     while let Some(line) = left.next() {

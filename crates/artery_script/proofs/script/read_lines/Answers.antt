@@ -1,7 +1,8 @@
-use Rattle.std.proofs.Common.{rules, ◌≡◌, ℕ, ◌+◌, ◌≤◌, List, ◌∷◌, length, ap, arith, false}
-use Rattle.artery_world.specs.Script.{lines_of, is_passed_over, event_of, told_at, events_from}
-use Rattle.artery_world.proofs.Cuts.{event_on}
-use Rattle.artery_world.proofs.script.read_lines.Goals as goal
+use Rattle.std.proofs.Common.{rules, ◌≡◌, ◌+◌, ◌∷◌, length, ap, arith, false}
+use Rattle.artery_lines.specs.Lines.{lines_of}
+use Rattle.artery_script.specs.Script.{is_passed_over, events_from}
+use Rattle.artery_script.proofs.Events.{event_on}
+use Rattle.artery_script.proofs.script.read_lines.Goals as goal
 
 pub loop-line-preserved : goal.loop-line-preserved
 loop-line-preserved c =
