@@ -1,6 +1,6 @@
 -- What arrives keeps the books.
-use Rattle.std.proofs.Common.{◌≡◌, ℕ, zero, suc, ◌+◌, ◌-◌, ◌<◌, Bool, true, false, ◌&&◌, ◌||◌, cond, List, [], ◌∷◌, ◌++◌, length, refl, sym, ◌∙◌, ap, subst, arith, append_assoc, append-nil}
-use Rattle.std.specs.Prelude.{Option, None, Some, is_some, ◌==◌, find, nat_lt, nat_le, slice_get, slice_set, unwrap_or}
+use Rattle.std.proofs.Common.{◌≡◌, ℕ, zero, suc, ◌+◌, ◌-◌, Bool, true, false, ◌&&◌, cond, List, [], ◌∷◌, ◌++◌, length, refl, sym, ◌∙◌, ap, subst, arith, append_assoc, append-nil}
+use Rattle.std.specs.Prelude.{Option, None, Some, is_some, ◌==◌, nat_lt, slice_get, slice_set, unwrap_or}
 use Rattle.std.specs.Option.{option_map}
 use Rattle.std.specs.Map.{lookup, set_value}
 use Rattle.std.proofs.lemmas.Bool.Decides.{nat_tests}
@@ -13,16 +13,16 @@ use Rattle.artery_delivery.specs.declared.inbound.Take.{Take}
 use Rattle.artery_delivery.specs.declared.inbound.Take.TheVariants.{Taken, Again, Gap}
 use Rattle.artery_delivery.specs.Outbound.{Kept, kept_acknowledged}
 use Rattle.artery_world.specs.declared.line.Line.{Line}
-use Rattle.artery_world.specs.declared.line.Line.TheVariants.{Started, Learnt, Sent, Took}
+use Rattle.artery_world.specs.declared.line.Line.TheVariants.{Took}
 use Rattle.artery_world.specs.declared.parcel.Parcel.{Parcel}
 use Rattle.artery_world.specs.declared.parcel.Parcel.TheVariants.{Numbered, Ack}
-use Rattle.artery_world.specs.Laws.{sent_of, took_of, sent_by, taken_by, IsPrefix}
-use Rattle.artery_world.specs.World.{PeerState, NodeState, LinkState, Net, World, has_uid, is_at, node_of, peer_of}
-use Rattle.artery_world.specs.Step.{in_node, in_peer, with_outbound, on_net, tells, puts, pumps, takes, arrives_from, arrives_between, arrives, arrive_all, delivers_link, delivers, delivers_first, delivers_each, pairs_up, passes, passes_times}
-use Rattle.artery_world.proofs.Lists.{by_test, by_option, on_cond, Each, each_weaker, each_set, each_get}
+use Rattle.artery_world.specs.Laws.{sent_by, taken_by, IsPrefix}
+use Rattle.artery_world.specs.World.{NodeState, LinkState, World, node_of}
+use Rattle.artery_world.specs.Step.{in_node, in_peer, with_outbound, on_net, tells, takes, arrives_from, arrives_between, arrives, arrive_all, delivers_link, delivers, delivers_first, pairs_up, passes, passes_times}
+use Rattle.artery_world.proofs.Lists.{by_test, on_cond, Each, each_weaker, each_set, each_get}
 use Rattle.artery_world.proofs.Journal.{Proper, IsSent, proper_push, same_is, same_self, other_not, sent_append, taken_append, sent_more}
-use Rattle.artery_world.proofs.Sending.{pairs_from, Sends, SendsRight, sends_acked, ParcelIsSent}
-use Rattle.artery_world.proofs.Books.{sending_in, TakesRight, NodeFacts, LinkFacts, who_in, Books, IsBy, who_same, node_changes, links_change, node_has}
+use Rattle.artery_world.proofs.Sending.{pairs_from, SendsRight, sends_acked, ParcelIsSent}
+use Rattle.artery_world.proofs.Books.{sending_in, TakesRight, NodeFacts, LinkFacts, who_in, Books, who_same, node_changes, links_change, node_has}
 use Rattle.artery_world.proofs.Goes.{Goes, stays, goes_on, outbound_changes, puts_sent, pumps_goes}
 use Rattle.artery_world.proofs.Meets.{pairs_up_goes}
 

@@ -1,6 +1,6 @@
 -- A parcel that arrives, by what is found under the UIDs at the ends of its link.
-use Rattle.std.proofs.Common.{◌≡◌, ℕ, zero, suc, ◌+◌, Bool, true, false, cond, List, [], ◌∷◌, ◌++◌, length, refl, sym, ◌∙◌, ap, subst, arith, add-one}
-use Rattle.std.specs.Prelude.{Option, None, Some, find}
+use Rattle.std.proofs.Common.{◌≡◌, ℕ, ◌+◌, true, List, sym, ◌∙◌, ap, arith, add-one}
+use Rattle.std.specs.Prelude.{None, Some}
 use Rattle.std.proofs.lemmas.Bool.Decides.{nat_tests}
 use Rattle.artery_base.specs.declared.address.UniqueAddress.{UniqueAddress}
 use Rattle.artery_base.specs.declared.message.SysMsg.{SysMsg}
@@ -9,7 +9,7 @@ use Rattle.artery_world.specs.declared.line.Line.{Line}
 use Rattle.artery_world.specs.declared.parcel.Parcel.{Parcel}
 use Rattle.artery_world.specs.declared.parcel.Parcel.TheVariants.{Numbered, Ack}
 use Rattle.artery_world.specs.World.{NodeState, Net, World, seen, has_uid, node_of}
-use Rattle.artery_world.specs.Step.{on_net, in_peer, with_outbound, pumps, arrives_from, arrives_at, arrives_between, arrives, delivers, delivers_first, passes, passes_times}
+use Rattle.artery_world.specs.Step.{in_peer, with_outbound, pumps, arrives_from, arrives_at, arrives_between, arrives, delivers, delivers_first, passes, passes_times}
 use Rattle.artery_world.proofs.Lists.{find_passes}
 
 pub from_nobody : (from to : ℕ) (p : Parcel) (net : Net) (lines : List Line) → node_of from net ≡ None → seen net lines ≡ arrives from to p (seen net lines)

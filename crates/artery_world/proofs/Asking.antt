@@ -1,9 +1,6 @@
 -- Requests, by the place of the incarnation that is asked.
-use Rattle.std.proofs.Common.{◌≡◌, ℕ, zero, suc, ◌+◌, ◌<◌, ◌≤◌, Bool, true, false, cond, List, [], ◌∷◌, ◌++◌, length, get_or, set, refl, sym, ◌∙◌, ap, subst, arith, rules}
-use Rattle.std.specs.Prelude.{Option, None, Some, position, find, Result, Ok, Err, is_some, ◌==◌, nat_lt}
-use Rattle.std.specs.List.{list_any}
-use Rattle.artery_world.specs.declared.world.TheConstants.{MOST_NODES}
-use Rattle.artery_world.specs.declared.fault.Why.TheVariants.{UsedUid, AddressLive}
+use Rattle.std.proofs.Common.{◌≡◌, ℕ, Bool, true, false, cond, List, [], ◌∷◌, ◌++◌, get_or, set, refl, sym, ◌∙◌, ap, arith, rules}
+use Rattle.std.specs.Prelude.{Option, None, Some, position, find, Ok, Err}
 use Rattle.std.specs.Option.{option_map}
 use Rattle.std.specs.Cmp.Rules.{comparing}
 use Rattle.std.proofs.lemmas.Bool.Decides.{nat_tests}
@@ -15,14 +12,13 @@ use Rattle.artery_delivery.specs.declared.outbound.Accept.{Accept}
 use Rattle.artery_delivery.specs.declared.outbound.Accept.TheVariants.{Accepted, Waiting, Overflow}
 use Rattle.artery_world.specs.declared.pending.Pending.{Pending}
 use Rattle.artery_world.specs.declared.fault.WorldFault.{WorldFault}
-use Rattle.artery_world.specs.declared.fault.WorldFault.TheVariants.{NotAllowed, Limit}
+use Rattle.artery_world.specs.declared.fault.WorldFault.TheVariants.{Limit}
 use Rattle.artery_world.specs.declared.fault.WorldLimit.TheVariants as limits
 use Rattle.artery_world.specs.declared.line.Line.{Line}
-use Rattle.artery_world.specs.declared.line.Line.TheVariants.{Sent}
-use Rattle.artery_world.specs.World.{PeerState, NodeState, Net, World, seen, has_uid, lives_at, is_at, node_of, peer_of, same_address}
-use Rattle.artery_world.specs.Step.{on_net, in_node, in_peer, with_outbound, pumps, knows, with_peer, asks, asks_at, unique_at, told_accepted, current_at, sends_to, sends_over, sends, starts, started, start_fault, starts_unless}
-use Rattle.artery_world.proofs.Lists.{find_passes, by_option}
-use Rattle.artery_world.proofs.Places.{set_is_change, place_is_found, no_place, change_nothing}
+use Rattle.artery_world.specs.World.{PeerState, NodeState, Net, World, seen, has_uid, is_at, node_of, peer_of, same_address}
+use Rattle.artery_world.specs.Step.{on_net, in_node, in_peer, with_outbound, pumps, knows, with_peer, asks, asks_at, told_accepted, sends_to, sends_over, sends, starts, started, start_fault, starts_unless}
+use Rattle.artery_world.proofs.Lists.{find_passes}
+use Rattle.artery_world.proofs.Places.{set_is_change, place_is_found, no_place}
 use Rattle.artery_world.proofs.Taking.{same_live}
 
 address_is : (a b : Address) → same_address a b ≡ true → a ≡ b

@@ -1,6 +1,6 @@
 -- What holds of a world and its journal after every event.
-use Rattle.std.proofs.Common.{◌≡◌, ℕ, zero, suc, ◌+◌, ◌-◌, ◌≤◌, ◌<◌, Bool, true, false, not, ◌&&◌, ◌||◌, cond, List, [], ◌∷◌, ◌++◌, length, take, refl, sym, ◌∙◌, ap, subst, arith, rules, append_assoc, append-nil}
-use Rattle.std.specs.Prelude.{Option, None, Some, is_some, ◌==◌, find, map, slice_get}
+use Rattle.std.proofs.Common.{◌≡◌, ℕ, ◌+◌, Bool, true, false, ◌&&◌, cond, List, [], ◌∷◌, ◌++◌, length, refl, sym, ◌∙◌, ap, subst, arith, rules, append-nil}
+use Rattle.std.specs.Prelude.{Option, None, Some, is_some, ◌==◌, find, map}
 use Rattle.std.specs.Option.{option_map}
 use Rattle.std.specs.List.{list_any}
 use Rattle.std.specs.Cmp.Rules.{comparing}
@@ -12,12 +12,12 @@ use Rattle.artery_delivery.specs.Inbound.{same_origin, expected_of}
 use Rattle.artery_delivery.specs.Outbound.{Kept}
 use Rattle.artery_world.specs.declared.line.Line.{Line}
 use Rattle.artery_world.specs.declared.line.Line.TheVariants.{Started, Learnt, Sent, Took}
-use Rattle.artery_world.specs.Laws.{sent_of, took_of, sent_by, taken_by, IsPrefix}
+use Rattle.artery_world.specs.Laws.{sent_of, took_of, sent_by, taken_by}
 use Rattle.artery_world.specs.Lookup.{change_first}
 use Rattle.artery_world.specs.World.{PeerState, NodeState, LinkState, Net, World, has_uid, is_at, node_of, same_address}
 use Rattle.artery_world.specs.Step.{in_node, on_net, tells}
-use Rattle.artery_world.proofs.Lists.{by_test, by_option, Each, each_weaker, each_changed, find_same, find_other, find_passes}
-use Rattle.artery_world.proofs.Journal.{Proper, same_is, same_self, other_not, sent_append, taken_append, sent_more}
+use Rattle.artery_world.proofs.Lists.{by_test, Each, each_weaker, each_changed, find_same, find_other, find_passes}
+use Rattle.artery_world.proofs.Journal.{Proper, other_not, sent_append, taken_append, sent_more}
 use Rattle.artery_world.proofs.Sending.{SendsRight, ParcelIsSent}
 use Rattle.artery_world.specs.declared.pending.Pending.{Pending}
 use Rattle.artery_world.specs.declared.parcel.Parcel.{Parcel}

@@ -1,5 +1,5 @@
 -- What an event leaves that does not happen.
-use Rattle.std.proofs.Common.{◌≡◌, ℕ, List, ◌++◌, length, take, ap, ◌∙◌, refl, sym}
+use Rattle.std.proofs.Common.{◌≡◌, List, length, take, ap, ◌∙◌, refl}
 use Rattle.std.specs.Prelude.{Result, Ok, Err}
 use Rattle.std.proofs.lemmas.List.{take_at}
 use Rattle.artery_world.specs.declared.fault.WorldFault.{WorldFault}

@@ -1,30 +1,22 @@
 -- The parts of a step that keep the books.
-use Rattle.std.proofs.Common.{◌≡◌, ℕ, zero, suc, ◌+◌, ◌-◌, ◌≤◌, ◌<◌, Bool, true, false, not, ◌&&◌, ◌||◌, cond, List, [], ◌∷◌, ◌++◌, length, take, refl, sym, ◌∙◌, ap, subst, arith, rules, append_assoc, append-nil}
-use Rattle.std.specs.Prelude.{Option, None, Some, is_some, ◌==◌, find, map, slice_get, nat_lt, nat_le, option_and_then, Result, Ok, Err}
+use Rattle.std.proofs.Common.{◌≡◌, ℕ, Bool, true, false, cond, List, [], ◌∷◌, ◌++◌, refl, sym, ◌∙◌, ap, subst, arith, append_assoc, append-nil}
+use Rattle.std.specs.Prelude.{Option, None, Some, is_some, ◌==◌, find, option_and_then}
 use Rattle.std.specs.Option.{option_map}
-use Rattle.std.specs.List.{list_any}
-use Rattle.std.specs.Map.{lookup, set_value}
 use Rattle.std.proofs.lemmas.Bool.Decides.{nat_tests}
 use Rattle.artery_base.specs.declared.address.Address.{Address}
 use Rattle.artery_base.specs.declared.address.UniqueAddress.{UniqueAddress}
 use Rattle.artery_base.specs.declared.message.SysMsg.{SysMsg}
-use Rattle.artery_delivery.specs.Inbound.{same_origin, expected_of, opening, entries_after, with_origin}
-use Rattle.artery_delivery.specs.declared.inbound.Opened.{Opened}
-use Rattle.artery_delivery.specs.declared.inbound.Opened.TheVariants.{Opened as NewlyOpened, Known, OriginsFull}
-use Rattle.artery_delivery.specs.Outbound.{Kept, nothing_kept, kept_learnt}
+use Rattle.artery_delivery.specs.Inbound.{expected_of}
+use Rattle.artery_delivery.specs.Outbound.{Kept}
 use Rattle.artery_world.specs.declared.line.Line.{Line}
-use Rattle.artery_world.specs.declared.line.Line.TheVariants.{Started, Learnt, Sent, Took}
 use Rattle.artery_world.specs.declared.parcel.Parcel.{Parcel}
-use Rattle.artery_world.specs.declared.parcel.Parcel.TheVariants.{Numbered, Ack}
-use Rattle.artery_world.specs.declared.pending.Pending.{Pending}
-use Rattle.artery_world.specs.Laws.{sent_of, took_of, sent_by, taken_by, IsPrefix}
+use Rattle.artery_world.specs.Laws.{sent_by, taken_by}
 use Rattle.artery_world.specs.Lookup.{change_first}
-use Rattle.artery_world.specs.World.{PeerState, NodeState, LinkState, Net, World, new_peer, has_uid, is_at, node_of, peer_of, same_address}
-use Rattle.artery_world.specs.Step.{in_node, in_peer, with_outbound, on_net, tells, joins, has_link, new_link, puts, numbered, parcels_of, all_written, pumps_over, pumps_current, pumps_peer, pumps, knows, with_peer, asks, unique_at, sent_lines, learnt_peer, learns, links_up, opens, meets}
-use Rattle.artery_world.proofs.Lists.{by_test, by_option, on_cond, Each, each_weaker, each_append, each_changed, find_same, find_other, find_passes, find_kept, find_new}
-use Rattle.artery_world.proofs.Journal.{Proper, IsQuiet, proper_quiet, same_is, same_self, other_not, sent_append, taken_append}
-use Rattle.artery_world.proofs.Sending.{pairs_from, Sends, SendsRight, sends_nothing_first, sends_written, ParcelIsSent, parcels_sent}
-use Rattle.artery_world.proofs.Books.{address_is, address_self, for_current, for_peer, sending_in, TakesRight, NodeFacts, LinkFacts, who_in, Books, IsBy, who_same, node_changes, node_quietly, links_change, pending_changes, node_has}
+use Rattle.artery_world.specs.World.{PeerState, NodeState, LinkState, Net, World, has_uid, is_at, node_of, peer_of, same_address}
+use Rattle.artery_world.specs.Step.{in_peer, with_outbound, on_net, joins, has_link, puts, parcels_of, all_written, pumps_over, pumps_current, pumps_peer, pumps, unique_at}
+use Rattle.artery_world.proofs.Lists.{by_test, by_option, on_cond, Each, each_append, each_changed, find_same, find_other}
+use Rattle.artery_world.proofs.Sending.{Sends, SendsRight, sends_written, ParcelIsSent, parcels_sent}
+use Rattle.artery_world.proofs.Books.{address_is, address_self, for_current, for_peer, sending_in, TakesRight, NodeFacts, LinkFacts, who_in, Books, who_same, node_quietly, links_change}
 
 -- from one world to a later one: the books hold, the same incarnations live, and lines were added
 pub record Goes (w w' : World) : Type 0 where

@@ -1,7 +1,6 @@
 -- A step adds the same lines, whatever was written before.
-use Rattle.std.proofs.Common.{◌≡◌, ℕ, zero, suc, Bool, true, false, cond, List, [], ◌∷◌, ◌++◌, length, refl, sym, ◌∙◌, ap, append_assoc, append-nil}
-use Rattle.std.specs.Prelude.{Option, None, Some, is_some, find, slice_get, slice_set, Result, Ok, Err}
-use Rattle.artery_base.specs.declared.address.Address.{Address}
+use Rattle.std.proofs.Common.{◌≡◌, ℕ, zero, suc, Bool, true, false, cond, List, [], ◌∷◌, ◌++◌, length, refl, ◌∙◌, ap, append_assoc}
+use Rattle.std.specs.Prelude.{Option, None, Some, is_some, find, slice_get, slice_set, Ok, Err}
 use Rattle.artery_base.specs.declared.address.UniqueAddress.{UniqueAddress}
 use Rattle.artery_base.specs.declared.message.SysMsg.{SysMsg}
 use Rattle.artery_base.specs.declared.message.Request.{Request}
@@ -23,7 +22,7 @@ use Rattle.artery_world.specs.declared.fault.Why.TheVariants.{OwnAddress}
 use Rattle.artery_world.specs.declared.line.Line.{Line}
 use Rattle.artery_world.specs.Replay.{with_lines_before, with_lines_before_result}
 use Rattle.artery_world.specs.World.{PeerState, NodeState, LinkState, Net, World, seen, lives_at, node_of, peer_of, same_address}
-use Rattle.artery_world.specs.Step.{on_net, in_node, opens, with_peer, asks, tells, learns, links_up, meets, settles_with, settles, settles_all, pairs_up, takes, arrives_from, arrives_between, arrives, arrive_all, delivers_link, delivers, delivers_first, delivers_each, passes, passes_times, sends_to, sends_over, sends, started, start_fault, starts_unless, starts, named, requested, asked, step}
+use Rattle.artery_world.specs.Step.{on_net, in_node, opens, with_peer, asks, tells, learns, links_up, meets, settles_with, settles, settles_all, pairs_up, takes, arrives_from, arrives_between, arrives, arrive_all, delivers_link, delivers, delivers_first, delivers_each, passes, passes_times, sends_to, sends_over, start_fault, starts_unless, named, requested, asked, step}
 
 tells_on : (j : List Line) (lines : List Line) (w : World) → tells lines (with_lines_before j w) ≡ with_lines_before j (tells lines w)
 tells_on j lines w = ap (λ (ls : List Line). record w { journal = ls }) (append_assoc j w.journal lines)

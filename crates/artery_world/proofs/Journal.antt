@@ -1,6 +1,6 @@
 -- What lines at the end of a journal add to what was sent and taken, and when the journal stays lawful.
-use Rattle.std.proofs.Common.{◌≡◌, ℕ, zero, suc, ◌+◌, ◌≤◌, ◌<◌, Bool, true, false, ◌&&◌, cond, List, [], ◌∷◌, ◌++◌, length, take, refl, sym, ◌∙◌, ap, subst, arith, rules, append_assoc, append-nil, inl, inr, ◌⊎◌}
-use Rattle.std.specs.Prelude.{Option, None, Some, slice_get, nat_le}
+use Rattle.std.proofs.Common.{◌≡◌, ℕ, zero, suc, ◌+◌, true, false, List, [], ◌∷◌, ◌++◌, length, take, refl, sym, ◌∙◌, ap, subst, arith, rules, append_assoc, append-nil, inl, inr, ◌⊎◌}
+use Rattle.std.specs.Prelude.{Some, slice_get, nat_le}
 use Rattle.std.specs.Cmp.Rules.{comparing}
 use Rattle.std.proofs.lemmas.List.{take-append-le, take_all, length_push}
 use Rattle.std.proofs.lemmas.Bool.Decides.{nat_tests}

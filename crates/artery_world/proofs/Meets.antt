@@ -1,29 +1,29 @@
 -- Meeting keeps the books.
-use Rattle.std.proofs.Common.{◌≡◌, ℕ, zero, suc, ◌+◌, Bool, true, false, ◌&&◌, ◌||◌, cond, List, [], ◌∷◌, ◌++◌, length, refl, sym, ◌∙◌, ap, subst, arith, append_assoc, append-nil}
-use Rattle.std.specs.Prelude.{Option, None, Some, is_some, ◌==◌, find, nat_lt, nat_le}
+use Rattle.std.proofs.Common.{◌≡◌, ℕ, ◌+◌, Bool, true, false, ◌&&◌, ◌||◌, cond, List, [], ◌∷◌, ◌++◌, length, refl, sym, ◌∙◌, ap, subst, arith, append-nil}
+use Rattle.std.specs.Prelude.{Option, None, Some, is_some, ◌==◌, find}
 use Rattle.std.specs.Option.{option_map}
 use Rattle.std.specs.List.{list_any}
-use Rattle.std.specs.Map.{lookup, set_value}
+use Rattle.std.specs.Map.{lookup}
 use Rattle.std.proofs.lemmas.Bool.Decides.{nat_tests}
 use Rattle.artery_base.specs.declared.address.Address.{Address}
 use Rattle.artery_base.specs.declared.address.UniqueAddress.{UniqueAddress}
 use Rattle.artery_base.specs.declared.message.SysMsg.{SysMsg}
-use Rattle.artery_delivery.specs.Inbound.{same_origin, expected_of, opening, entries_after, with_origin}
+use Rattle.artery_delivery.specs.Inbound.{same_origin, expected_of, opening, entries_after}
 use Rattle.artery_delivery.specs.declared.inbound.Opened.{Opened}
 use Rattle.artery_delivery.specs.declared.inbound.Opened.TheVariants.{Opened as NewlyOpened, Known, OriginsFull}
-use Rattle.artery_delivery.specs.Outbound.{Kept, nothing_kept, kept_learnt}
+use Rattle.artery_delivery.specs.Outbound.{Kept, kept_learnt}
 use Rattle.artery_world.specs.declared.line.Line.{Line}
-use Rattle.artery_world.specs.declared.line.Line.TheVariants.{Started, Learnt, Sent, Took}
+use Rattle.artery_world.specs.declared.line.Line.TheVariants.{Learnt}
 use Rattle.artery_world.specs.declared.pending.Pending.{Pending}
-use Rattle.artery_world.specs.Laws.{sent_of, took_of, sent_by, taken_by}
+use Rattle.artery_world.specs.Laws.{sent_by, taken_by}
 use Rattle.artery_world.specs.Lookup.{change_first}
-use Rattle.artery_world.specs.World.{PeerState, NodeState, LinkState, Net, World, new_peer, has_uid, lives_at, is_at, node_of, peer_of, same_address}
-use Rattle.artery_world.specs.Step.{in_node, in_peer, on_net, tells, has_link, new_link, pumps, knows, with_peer, asks, unique_at, sent_lines, learnt_peer, learns, links_up, opens, meets, settles_with, settles, settles_all, pairs_up}
-use Rattle.artery_world.proofs.Lists.{by_test, by_option, on_cond, Each, each_append, find_passes, find_kept, find_new}
-use Rattle.artery_world.proofs.Journal.{Proper, IsQuiet, proper_quiet, same_is, same_self, other_not, sent_append, taken_append}
+use Rattle.artery_world.specs.World.{PeerState, NodeState, Net, World, new_peer, has_uid, lives_at, is_at, node_of, peer_of}
+use Rattle.artery_world.specs.Step.{in_node, in_peer, on_net, tells, has_link, new_link, knows, with_peer, unique_at, sent_lines, learnt_peer, learns, links_up, opens, meets, settles_with, settles, settles_all, pairs_up}
+use Rattle.artery_world.proofs.Lists.{by_test, by_option, on_cond, Each, each_append, find_kept, find_new}
+use Rattle.artery_world.proofs.Journal.{IsQuiet, proper_quiet, same_self, other_not, sent_append, taken_append}
 use Rattle.artery_world.proofs.Sending.{pairs_from, Sends, SendsRight, sends_nothing_first}
-use Rattle.artery_world.proofs.Books.{address_is, address_self, for_current, for_peer, sending_in, TakesRight, NodeFacts, LinkFacts, who_in, uids, AreDistinct, Books, IsBy, who_same, node_changes, node_quietly, links_change, pending_changes, node_has}
-use Rattle.artery_world.proofs.Goes.{Goes, stays, goes_on, peer_found, peer_facts, here_sends, here_known, pumps_goes}
+use Rattle.artery_world.proofs.Books.{for_current, for_peer, sending_in, TakesRight, NodeFacts, who_in, uids, AreDistinct, Books, IsBy, who_same, node_changes, node_quietly, links_change, pending_changes, node_has}
+use Rattle.artery_world.proofs.Goes.{Goes, stays, goes_on, peer_found, peer_facts, here_sends, pumps_goes}
 
 -- ---- a peer is made, an origin is opened
 

@@ -1,5 +1,5 @@
 -- Pumping through the places of a node and a link.
-use Rattle.std.proofs.Common.{◌≡◌, ℕ, zero, suc, ◌+◌, ◌≤◌, ◌<◌, Bool, true, false, ◌||◌, cond, List, [], ◌∷◌, ◌++◌, length, get_or, set, refl, sym, ◌∙◌, ap, subst, arith, append-nil}
+use Rattle.std.proofs.Common.{◌≡◌, ℕ, Bool, true, false, ◌||◌, cond, List, [], ◌∷◌, ◌++◌, get_or, set, refl, sym, ◌∙◌, ap, append-nil}
 use Rattle.std.specs.Prelude.{Option, None, Some, position, find}
 use Rattle.std.specs.List.{list_any}
 use Rattle.std.specs.Option.{option_and_then}
@@ -7,7 +7,7 @@ use Rattle.artery_base.specs.declared.address.Address.{Address}
 use Rattle.artery_world.specs.declared.parcel.Parcel.{Parcel}
 use Rattle.artery_world.specs.Lookup.{change_first}
 use Rattle.artery_world.specs.World.{PeerState, NodeState, LinkState, Net, has_uid, is_at, node_of, peer_of}
-use Rattle.artery_world.specs.Step.{in_node, in_peer, with_outbound, all_written, joins, has_link, puts, parcels_of, parcels_to, pumps_over, pumps_current, pumps_peer, pumps, current_at, pumps_onto}
+use Rattle.artery_world.specs.Step.{in_peer, with_outbound, all_written, joins, has_link, puts, parcels_to, pumps_current, pumps_peer, pumps, current_at, pumps_onto}
 use Rattle.artery_world.proofs.Places.{set_is_change, place_is_found, no_place, change_nothing}
 
 -- to nobody there is nothing to write

@@ -1,14 +1,14 @@
 -- One message after another is pumped: what is written first, and what is left.
-use Rattle.std.proofs.Common.{◌≡◌, ℕ, zero, suc, ◌+◌, ◌-◌, ◌*◌, ◌≤◌, ◌<◌, min, Bool, true, false, ◌&&◌, cond, List, [], ◌∷◌, ◌++◌, length, take, drop, refl, sym, ◌∙◌, ap, subst, arith, append_assoc}
+use Rattle.std.proofs.Common.{◌≡◌, ℕ, zero, suc, ◌+◌, ◌-◌, ◌≤◌, ◌<◌, min, Bool, true, false, ◌&&◌, cond, List, [], ◌∷◌, ◌++◌, length, take, drop, refl, sym, ◌∙◌, ap, subst, arith, append_assoc}
 use Rattle.std.specs.Prelude.{Option, None, Some, is_some, slice_get, nat_lt}
 use Rattle.std.specs.Option.{option_map}
 use Rattle.std.proofs.lemmas.Bool.Decides.{nat_tests}
 use Rattle.artery_base.specs.declared.message.SysMsg.{SysMsg}
-use Rattle.artery_delivery.specs.Outbound.{Kept, given, next_to_write, kept_pumped}
+use Rattle.artery_delivery.specs.Outbound.{Kept, next_to_write, kept_pumped}
 use Rattle.artery_delivery.specs.declared.outbound.TheConstants.{WINDOW}
 use Rattle.artery_world.specs.declared.parcel.Parcel.{Parcel}
-use Rattle.artery_world.specs.declared.parcel.Parcel.TheVariants.{Numbered, Ack}
-use Rattle.artery_world.specs.Step.{numbered, last_to_write, parcels_of, all_written}
+use Rattle.artery_world.specs.declared.parcel.Parcel.TheVariants.{Numbered}
+use Rattle.artery_world.specs.Step.{numbered, parcels_of, all_written}
 
 pub drop_get : (ms : List SysMsg) (i : ℕ) (m : SysMsg) → slice_get ms i ≡ Some m → (drop i ms ≡ m ∷ drop (i + 1) ms) × (i < length ms)
 drop_get [] i m h = cc

@@ -1,6 +1,6 @@
 -- Every run keeps the books, so its journal is lawful.
-use Rattle.std.proofs.Common.{◌≡◌, ℕ, zero, suc, ◌+◌, ◌-◌, ◌<◌, Bool, true, false, ◌&&◌, ◌||◌, cond, List, [], ◌∷◌, ◌++◌, length, take, refl, sym, ◌∙◌, ap, subst, arith, append_assoc, append-nil}
-use Rattle.std.specs.Prelude.{Option, None, Some, is_some, ◌==◌, find, nat_lt, nat_le, slice_get, map, Result, Ok, Err}
+use Rattle.std.proofs.Common.{◌≡◌, ℕ, zero, suc, ◌+◌, Bool, true, false, ◌&&◌, ◌||◌, cond, List, [], ◌∷◌, ◌++◌, length, take, refl, sym, ◌∙◌, ap, subst, arith, append-nil}
+use Rattle.std.specs.Prelude.{Option, None, Some, ◌==◌, find, nat_lt, Result, Ok, Err}
 use Rattle.std.specs.Option.{option_map}
 use Rattle.std.specs.List.{list_any}
 use Rattle.std.proofs.lemmas.Bool.Decides.{nat_tests}
@@ -16,25 +16,24 @@ use Rattle.artery_delivery.specs.declared.outbound.Accept.{Accept}
 use Rattle.artery_delivery.specs.declared.outbound.Accept.TheVariants.{Accepted, Waiting, Overflow}
 use Rattle.artery_script.specs.declared.event.Event.{Event}
 use Rattle.artery_script.specs.declared.event.Event.TheVariants.{Start, At, Pass}
-use Rattle.artery_world.specs.declared.pending.Pending.{Pending}
 use Rattle.artery_world.specs.declared.fault.Why.TheVariants.{UsedUid, AddressLive}
 use Rattle.artery_world.specs.declared.fault.WorldLimit.TheVariants as limits
 use Rattle.artery_world.specs.declared.fault.WorldFault.{WorldFault}
 use Rattle.artery_world.specs.declared.fault.WorldFault.TheVariants.{NotAllowed, Limit}
 use Rattle.artery_world.specs.declared.line.Line.{Line}
-use Rattle.artery_world.specs.declared.line.Line.TheVariants.{Started, Learnt, Sent, Took}
+use Rattle.artery_world.specs.declared.line.Line.TheVariants.{Started, Sent}
 use Rattle.artery_script.specs.declared.script.ScriptLine.{ScriptLine}
 use Rattle.artery_world.specs.declared.world.TheConstants.{MOST_NODES}
-use Rattle.artery_world.specs.Laws.{sent_of, took_of, sent_by, taken_by, IsPrefix, IsLawful}
+use Rattle.artery_world.specs.Laws.{sent_by, taken_by, IsPrefix, IsLawful}
 use Rattle.artery_world.specs.Lookup.{change_first}
-use Rattle.artery_world.specs.World.{PeerState, NodeState, LinkState, Net, World, nothing, new_node, has_uid, lives_at, is_at, node_of, peer_of, same_address}
-use Rattle.artery_world.specs.Step.{in_node, in_peer, with_outbound, on_net, tells, pumps, knows, with_peer, asks, unique_at, sends_to, sends_over, sends, starts, starts_unless, named, requested, asked, step}
-use Rattle.artery_world.specs.Replay.{Run, goes_on, run_from, run}
+use Rattle.artery_world.specs.World.{PeerState, NodeState, Net, World, nothing, new_node, has_uid, lives_at, is_at, node_of, same_address}
+use Rattle.artery_world.specs.Step.{in_node, in_peer, with_outbound, on_net, tells, knows, with_peer, asks, unique_at, sends_to, sends_over, sends, starts, starts_unless, named, requested, asked, step}
+use Rattle.artery_world.specs.Replay.{goes_on, run_from, run}
 use Rattle.artery_world.proofs.Lists.{by_test, by_option, on_cond, Each, each_weaker, each_append, find_kept, find_new, find_passes}
-use Rattle.artery_world.proofs.Journal.{Proper, IsQuiet, proper_quiet, same_is, same_self, other_not, sent_append, taken_append}
+use Rattle.artery_world.proofs.Journal.{proper_quiet, same_self, other_not, sent_append, taken_append}
 use Rattle.artery_world.proofs.Sending.{Sends, SendsRight, ParcelIsSent, sends_accepted}
-use Rattle.artery_world.proofs.Books.{address_is, for_current, for_peer, sending_in, TakesRight, NodeFacts, LinkFacts, who_in, uids, AreDistinct, WasStarted, Books, IsBy, who_same, node_changes, node_quietly, pending_changes, node_has, link_facts_more}
-use Rattle.artery_world.proofs.Goes.{Goes, stays, goes_on as then_goes, peer_found, peer_facts, here_sends, here_known, current_known, outbound_changes, pumps_goes}
+use Rattle.artery_world.proofs.Books.{address_is, for_current, sending_in, TakesRight, NodeFacts, who_in, uids, AreDistinct, WasStarted, Books, who_same, node_changes, node_quietly, pending_changes, node_has}
+use Rattle.artery_world.proofs.Goes.{Goes, stays, peer_found, peer_facts, here_sends, here_known, current_known, outbound_changes, pumps_goes}
 use Rattle.artery_world.proofs.Meets.{facts_with_peer, with_peer_me, who_node}
 use Rattle.artery_world.proofs.Arrivals.{passes_times_goes}
 

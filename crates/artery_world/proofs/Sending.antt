@@ -1,19 +1,15 @@
 -- What is kept of the messages to a peer, and the whole list of those sent.
-use Rattle.std.proofs.Common.{◌≡◌, ℕ, zero, suc, ◌+◌, ◌-◌, ◌*◌, ◌≤◌, ◌<◌, min, Bool, true, false, ◌&&◌, cond, List, [], ◌∷◌, ◌++◌, length, take, drop, refl, sym, ◌∙◌, ap, subst, arith, append_assoc, append-nil, length-drop, length-append, length-take, add-one, add-zero}
-use Rattle.std.specs.Prelude.{Option, None, Some, slice_get, nat_lt, nat_le, max, is_some}
-use Rattle.std.specs.Option.{option_map}
+use Rattle.std.proofs.Common.{◌≡◌, ℕ, zero, suc, ◌+◌, ◌-◌, ◌≤◌, Bool, true, false, cond, List, [], ◌∷◌, ◌++◌, length, take, drop, refl, sym, ◌∙◌, ap, subst, arith, length-drop, length-append, add-zero}
+use Rattle.std.specs.Prelude.{Option, None, Some, slice_get, nat_lt, max}
 use Rattle.std.proofs.lemmas.List.{drop-drop, drop-append-le}
 use Rattle.std.proofs.lemmas.Bool.Decides.{nat_tests}
 use Rattle.artery_base.specs.declared.message.SysMsg.{SysMsg}
-use Rattle.artery_delivery.specs.Outbound.{Kept, given, is_full, acceptance, kept_accepted, kept_learnt, kept_acknowledged}
-use Rattle.artery_delivery.specs.declared.outbound.TheConstants.{WINDOW}
-use Rattle.artery_delivery.specs.declared.outbound.Accept.{Accept}
-use Rattle.artery_delivery.specs.declared.outbound.Accept.TheVariants.{Accepted, Waiting, Overflow}
+use Rattle.artery_delivery.specs.Outbound.{Kept, given, is_full, kept_accepted, kept_learnt, kept_acknowledged}
 use Rattle.artery_world.specs.declared.parcel.Parcel.{Parcel}
 use Rattle.artery_world.specs.declared.parcel.Parcel.TheVariants.{Numbered, Ack}
 use Rattle.artery_world.specs.Laws.{Numbered as Pair}
 use Rattle.artery_world.specs.Step.{numbered, last_to_write, parcels_of, all_written}
-use Rattle.artery_world.proofs.Lists.{by_test, on_cond, Each}
+use Rattle.artery_world.proofs.Lists.{on_cond, Each}
 use Rattle.artery_world.proofs.Journal.{IsSent}
 
 -- messages with their numbers, from n on

@@ -1,6 +1,6 @@
 -- A message that is not taken changes nothing.
-use Rattle.std.proofs.Common.{◌≡◌, ℕ, zero, suc, ◌+◌, ◌-◌, ◌<◌, Bool, true, false, ◌&&◌, cond, List, [], ◌∷◌, ◌++◌, length, get_or, set, refl, sym, ◌∙◌, ap, subst, arith}
-use Rattle.std.specs.Prelude.{Option, None, Some, is_some, ◌==◌, nat_lt, unwrap_or, position, find}
+use Rattle.std.proofs.Common.{◌≡◌, ℕ, zero, suc, ◌+◌, ◌-◌, Bool, true, false, ◌&&◌, cond, List, [], ◌∷◌, ◌++◌, get_or, set, refl, sym, ◌∙◌, ap, arith}
+use Rattle.std.specs.Prelude.{Option, None, Some, is_some, ◌==◌, nat_lt}
 use Rattle.std.specs.Map.{set_value}
 use Rattle.std.proofs.lemmas.Bool.Decides.{nat_tests}
 use Rattle.artery_base.specs.declared.address.UniqueAddress.{UniqueAddress}
@@ -12,10 +12,8 @@ use Rattle.artery_delivery.specs.declared.inbound.Take.TheVariants.{Taken, Again
 use Rattle.artery_world.specs.declared.line.Line.{Line}
 use Rattle.artery_world.specs.declared.parcel.Parcel.TheVariants.{Numbered, Ack}
 use Rattle.artery_world.specs.declared.line.Line.TheVariants.{Took}
-use Rattle.artery_world.specs.Lookup.{change_first}
-use Rattle.artery_world.specs.World.{NodeState, Net, World, seen, has_uid, node_of}
-use Rattle.artery_world.specs.Step.{on_net, in_node, puts, takes, tells, arrives_from, arrives_at, is_taken, takes_next, counted}
-use Rattle.artery_world.proofs.Places.{place_is_found, no_place, set_is_change}
+use Rattle.artery_world.specs.World.{NodeState, Net, World, seen, node_of}
+use Rattle.artery_world.specs.Step.{in_node, puts, takes, arrives_at, is_taken, takes_next, counted}
 
 set_same : {X : Type 0} (xs : List X) (i : ℕ) (x : X) → x ≡ get_or xs i x → set xs i x ≡ xs
 set_same [] i x h = refl

@@ -1,6 +1,5 @@
 ghost use Rattle.std.specs.Prelude.{◌≡◌, [], ◌∷◌, ◌++◌, length, take, codes, decimal, flat_map, OnOk, OnErr};
-ghost use Rattle.artery_base.specs.Spelling.{unique_text};
-ghost use Rattle.artery_base.specs.Spelling.{message_text};
+ghost use Rattle.artery_base.specs.Spelling.{unique_text, message_text};
 ghost use Rattle.artery_world.specs.Texts.{line_text, ended_line, journal_text};
 
 use crate::line::Line;

@@ -1,6 +1,5 @@
-use Rattle.std.proofs.Common.{◌≡◌, arith, append-nil, ◌∙◌, ap, sym, ◌++◌, ◌∷◌, [], Some, None}
+use Rattle.std.proofs.Common.{◌≡◌, append-nil, ◌∙◌, ap, sym, ◌++◌, ◌∷◌, [], None}
 use Rattle.artery_delivery.specs.Outbound.{next_to_write, kept_pumped}
-use Rattle.artery_delivery.specs.Lending.{Pumps}
 use Rattle.artery_world.specs.declared.parcel.Parcel.TheVariants.{Numbered}
 use Rattle.artery_world.proofs.Pumping.{turn_values, turn_rest, turn_learnt, turn_order, turn_smaller, pumps_none, pumped_none}
 use Rattle.artery_world.proofs.peer.pump_all.Goals as goal

@@ -1,4 +1,4 @@
-use Rattle.std.proofs.Common.{◌≡◌, ◌+◌, ◌-◌, ◌++◌, length, drop}
+use Rattle.std.proofs.Common.{◌≡◌, ◌+◌, ◌++◌, drop}
 use Rattle.artery_world.specs.Lookup.{Grows}
 use Rattle.artery_world.specs.Step.{sent_lines}
 use Rattle.artery_world.proofs.peer.tell_all.Given as goal

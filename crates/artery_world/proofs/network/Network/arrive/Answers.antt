@@ -1,4 +1,4 @@
-use Rattle.std.proofs.Common.{◌≡◌, ◌∙◌, ap, sym}
+use Rattle.std.proofs.Common.{◌∙◌, ap, sym}
 use Rattle.artery_world.specs.World.{seen}
 use Rattle.artery_world.specs.Step.{arrives}
 use Rattle.artery_world.proofs.Arriving.{ack_arrives}

@@ -1,4 +1,4 @@
-use Rattle.std.proofs.Common.{◌≡◌, ◌∙◌, ap, sym}
+use Rattle.std.proofs.Common.{◌∙◌, ap, sym}
 use Rattle.artery_world.specs.Step.{delivers}
 use Rattle.artery_world.proofs.Arriving.{one_more}
 use Rattle.artery_world.proofs.Telling.{grows_on}

@@ -1,4 +1,4 @@
-use Rattle.std.proofs.Common.{◌≡◌, ◌∙◌, ap, sym, Some}
+use Rattle.std.proofs.Common.{◌∙◌, ap, sym, Some}
 use Rattle.artery_world.specs.World.{seen}
 use Rattle.artery_world.specs.Step.{on_net, pumps, told_accepted}
 use Rattle.artery_world.proofs.Asking.{send_waits, send_accepted}
