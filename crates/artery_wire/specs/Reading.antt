@@ -7,6 +7,7 @@ use Rattle.artery_wire.specs.declared.fault.WireFault.{WireFault}
 use Rattle.artery_wire.specs.Fault.{fault_at}
 use Rattle.artery_wire.specs.Record.{ValueOf, Varint, Fixed64, Bytes, Fixed32, FieldOf, max_number}
 
+-- one step of reading after another, up to the first fault
 infixl 10 ◌>>=◌
 abbrev pub ◌>>=◌ : {A B : Type 0} → Result A FaultKind → (A → Result B FaultKind) → Result B FaultKind
 (Ok x) >>= f = f x
@@ -27,6 +28,7 @@ digits_at zero bytes = Err kinds.Varint
 digits_at (suc left) [] = Err kinds.Truncated
 digits_at (suc left) (b ∷ bs) = if nat_lt b 128 then Ok (b, bs) else (digits_at left bs >>= λ high. Ok (with_low (b % 128) high.0, high.1))
 
+-- the varint at the front, which has at most ten bytes, and the bytes after it
 unfoldable pub varint_at : List ℕ → Result (ℕ × List ℕ) FaultKind
 varint_at bytes = digits_at 10 bytes
 
@@ -34,9 +36,11 @@ varint_at bytes = digits_at 10 bytes
 abbrev pub split_at : ℕ → List ℕ → Result (List ℕ × List ℕ) FaultKind
 split_at n bytes = if nat_lt (length bytes) n then Err kinds.Truncated else Ok (take n bytes, drop n bytes)
 
+-- the number of this width at the front, whose bytes stand from the lowest on, and the bytes after it
 abbrev pub fixed_at : Width → List ℕ → Result (ℕ × List ℕ) FaultKind
 fixed_at w bytes = split_at (byte_len w) bytes >>= λ x. Ok (from_le_bytes w x.0, x.1)
 
+-- a varint says how many bytes the payload behind it has; the payload, and the bytes after it
 unfoldable pub payload_at : List ℕ → Result (List ℕ × List ℕ) FaultKind
 payload_at bytes = varint_at bytes >>= λ size. split_at size.0 size.1
 

@@ -17,12 +17,14 @@ pub record FieldOf : Type 0 where
   pub number : ℕ
   pub value : ValueOf
 
+-- the value, without where its payload lies
 abbrev pub value_of : Value → ValueOf
 value_of (values.Varint n) = Varint n
 value_of (values.Fixed64 n) = Fixed64 n
 value_of (values.Bytes payload) = Bytes payload.now
 value_of (values.Fixed32 n) = Fixed32 n
 
+-- the field, without where its payload lies
 abbrev pub field_of : Field → FieldOf
 field_of f = record { number = f.number; value = value_of f.value }
 

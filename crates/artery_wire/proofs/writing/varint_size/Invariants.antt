@@ -1,4 +1,4 @@
-use Rattle.std.proofs.Common.{◌≡◌, ◌+◌, ◌<◌, ◌^◌, length}
+use Rattle.std.proofs.Common.{◌≡◌, ◌+◌, length}
 use Rattle.artery_wire.specs.Writing.{varint_of}
 use Rattle.artery_wire.proofs.writing.varint_size.Given as goal
 
