@@ -1,0 +1,14 @@
+//! The byte vectors of the protocol, read and written by the crates below: whole frames of the messages
+//! that two nodes exchange first, and the fields whose spelling is easily mistaken. They are not the
+//! output of this program: it is held against them.
+#![tactic(auto)]
+
+mod fields;
+mod frames;
+#[cfg(test)]
+mod tests;
+
+pub use fields::{NEGATIVE_SERIALIZER, VALUES, VALUES_PACKED};
+pub use frames::{
+    ACKNOWLEDGEMENT, HANDSHAKE_ANSWER, HANDSHAKE_REQUEST, NUMBERED_MESSAGE, PAYLOAD_AT, SECOND_TELL,
+};
