@@ -1,0 +1,4 @@
+pub mod ControlText
+pub mod FrameText
+pub mod Shown
+pub mod Captured
