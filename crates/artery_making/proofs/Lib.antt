@@ -1,0 +1,3 @@
+pub mod Telling
+pub mod Bytes
+pub mod Lines
