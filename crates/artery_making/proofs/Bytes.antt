@@ -1,5 +1,5 @@
 -- The bytes of an envelope that is written, or why it is not.
-use Rattle.std.proofs.Common.{◌≡◌, ◌≢◌, ℕ, ◌+◌, ◌≤◌, Bool, true, false, cond, List, [], ◌∷◌, ◌++◌, length, Option, Some, None, Result, Ok, Err, refl, sym, ap, ◌∙◌, arith, length-append}
+use Rattle.std.proofs.Common.{◌≡◌, ℕ, ◌≤◌, Bool, true, false, cond, List, ◌++◌, length, Option, Some, None, Result, Ok, Err, refl, ap, arith, length-append}
 use Rattle.std.specs.Prelude.{IfSome}
 use Rattle.std.proofs.lemmas.Bool.{ltb-false}
 use Rattle.artery_header.specs.declared.fault.EncodeFault.{EncodeFault}
@@ -30,12 +30,16 @@ spelled_length (Number i) = refl
 
 canonical_length : (c : Contents) → length (canonical c) ≡ canonical_len c
 unfolding numbers tags
-canonical_length c = omega (arith,
-    length-append (((header c ++ spelled c.sender) ++ spelled c.recipient) ++ spelled c.manifest) c.payload,
-    length-append ((header c ++ spelled c.sender) ++ spelled c.recipient) (spelled c.manifest),
-    length-append (header c ++ spelled c.sender) (spelled c.recipient),
-    length-append (header c) (spelled c.sender),
-    spelled_length c.sender, spelled_length c.recipient, spelled_length c.manifest)
+canonical_length c = omega (
+  arith,
+  length-append (((header c ++ spelled c.sender) ++ spelled c.recipient) ++ spelled c.manifest) c.payload,
+  length-append ((header c ++ spelled c.sender) ++ spelled c.recipient) (spelled c.manifest),
+  length-append (header c ++ spelled c.sender) (spelled c.recipient),
+  length-append (header c) (spelled c.sender),
+  spelled_length c.sender,
+  spelled_length c.recipient,
+  spelled_length c.manifest,
+)
 
 none_long : (a b d e : Bool) (w x y z : EncodeFault) → cond a (Some w) (cond b (Some x) (cond d (Some y) (cond e (Some z) None))) ≡ None → e ≡ false
 none_long true b d e w x y z h = absurd (cc)

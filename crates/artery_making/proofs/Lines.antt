@@ -5,7 +5,6 @@ use Rattle.std.proofs.lemmas.List.{append-nil}
 use Rattle.artery_base.specs.Reading.{Gives, Unless}
 use Rattle.artery_frame.specs.Stream.{preamble}
 use Rattle.artery_making.specs.declared.fault.MakeFault.{MakeFault}
-use Rattle.artery_making.specs.declared.fault.MakeFault.TheVariants.{BadLine}
 use Rattle.artery_making.specs.Made.{frame_told, stream_told, told_at, at_line, before_others, frames_from, stream_from, make_memory}
 
 -- ---- the first line

@@ -8,7 +8,7 @@ use Rattle.artery_frame.specs.Stream.{preamble, framed}
 use Rattle.artery_header.specs.declared.fault.EncodeFault.{EncodeFault}
 use Rattle.artery_header.specs.declared.fault.EncodeFault.TheVariants as encode_faults
 use Rattle.artery_header.specs.Envelope.{Named, Text, Number, Contents, is_text, canonical, refusal}
-use Rattle.artery_lines.specs.Lines.{lines_of, tokens_of, at_end, Tells, ◌>>=◌}
+use Rattle.artery_lines.specs.Lines.{lines_of, tokens_of, at_end, ◌>>=◌}
 use Rattle.artery_lines.specs.declared.fault.LineFault.{LineFault}
 use Rattle.artery_lines.specs.declared.fault.LineFault.TheVariants as line_faults
 use Rattle.artery_making.specs.declared.told.ToldName.{ToldName}
@@ -121,7 +121,7 @@ make_memory (BadLine line) = false
 make_memory TooManyLines = false
 make_memory NoMemory = true
 
--- ---- what the code reads of a line
+-- ---- what the code reads and adds
 
 -- a name that was read, as one of an envelope
 abbrev pub told_name : ToldName → Named
