@@ -12,12 +12,17 @@ use Rattle.artery_frame.proofs.Readings.{reading_at}
 use Rattle.artery_capture.specs.declared.progress.Progress.{Progress}
 use Rattle.artery_capture.specs.declared.progress.Progress.TheVariants.{GoingOn, Faulty}
 use Rattle.artery_capture.specs.FrameText.{frame_lines}
+use Rattle.artery_capture.specs.Shown.{front_lines, reading_lines}
 use Rattle.artery_capture.specs.Captured.{ShowsBy, answer_lines, end_of, lines_behind, AllShown}
 
 -- nothing stands for nothing
 nothing_read : preamble_of [] ≡ Ok None
 unfolding preamble_of
 nothing_read = refl
+
+-- of nothing no line is told
+pub nothing_told : front_lines [] ≡ []
+nothing_told = ap reading_lines (reading_at [] (Ok None) nothing_read)
 
 pub nothing_shown : (d : Kept) → Stands d [] [] → ShowsBy GoingOn d []
 nothing_shown d h =
