@@ -9,8 +9,13 @@ use std::process::ExitCode;
 use std::{env, io};
 
 /// What the program does, for `--help`.
-const USAGE: &[u8] =
-    b"artery replay < SCRIPT   writes the journal of a script of a network\nartery --help            tells this\nartery --version         tells the version\n";
+const USAGE: &[u8] = b"artery show < BYTES             tells the bytes of one connection in lines
+artery make < LINES             writes the bytes that stream and frame lines tell
+artery check control M < HEX    tells the control message of a payload under the manifest M
+artery replay < SCRIPT          writes the journal of a script of a network
+artery --help                   tells this
+artery --version                tells the version
+";
 
 /// The version, for `--version`.
 const VERSION: &[u8] = b"artery 0.1.0\n";

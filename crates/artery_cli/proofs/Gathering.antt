@@ -2,9 +2,10 @@
 use Rattle.std.proofs.Common.{◌≡◌, ℕ, ◌+◌, ◌≤◌, ◌<◌, List, [], ◌++◌, length, refl, sym, ◌∙◌, ap, append_assoc, append-nil, arith, length-append}
 use Rattle.std.specs.Prelude.{Option, None, Some, IfSome}
 use Rattle.std.specs.Io.KnownBytes.{Consumes, IsAtEnd}
+use Rattle.artery_base.specs.Faults.{Rose}
 use Rattle.artery_cli.specs.declared.input.Gathered.TheVariants.{Whole, TooLong}
 use Rattle.artery_cli.specs.declared.input.TheConstants.{MOST_BYTES}
-use Rattle.artery_cli.specs.Playing.{Gathers, ReadsAtMost}
+use Rattle.artery_cli.specs.Reading.{Gathers, ReadsAtMost}
 
 pub nothing_read : (old : Option (List ℕ)) → Consumes old old []
 nothing_read None = tt
@@ -33,3 +34,6 @@ too_much_read (Some a) (Some b) bytes h l = (let long : length a ≡ length byte
 pub nothing_taken : (n : ℕ) (old : Option (List ℕ)) → ReadsAtMost n old old
 nothing_taken n None = tt
 nothing_taken n (Some text) = omega arith
+
+pub rose_later : (old mid new : ℕ) → old ≤ mid → Rose mid new → Rose old new
+rose_later old mid new h r = omega (arith, r)

@@ -1,9 +1,14 @@
 -- What an event does is the same whatever was written before it.
-use Rattle.std.proofs.Common.{◌≡◌, ℕ, suc, ◌+◌, ◌<◌, length, get_or, add-one, drop-cons, List, [], ◌∷◌, ◌++◌, drop, refl, sym, ◌∙◌, ap, subst, append-nil, append_assoc}
+use Rattle.std.proofs.Common.{◌≡◌, ℕ, suc, ◌+◌, ◌<◌, length, get_or, add-one, drop-cons, List, [], ◌∷◌, ◌++◌, drop, refl, sym, ◌∙◌, ap, subst, append-nil}
 use Rattle.std.specs.Prelude.{Option, None, Some, Result, Ok, Err}
-use Rattle.std.specs.Io.KnownBytes.{Appends, Keeps}
+use Rattle.std.specs.Io.KnownBytes.{Appends}
 use Rattle.std.proofs.lemmas.List.Concat.{flat_map-append}
-use Rattle.artery_cli.specs.Playing.{Happened, Refused, PlayedTo}
+use Rattle.artery_base.specs.Written.{TakesFront}
+use Rattle.artery_cli.specs.declared.stop.Stop.{Stop}
+use Rattle.artery_cli.specs.declared.stop.Stop.TheVariants as stops
+use Rattle.artery_cli.specs.Leaving.{IsFrontOf, WritingStops}
+use Rattle.artery_cli.specs.Playing.{Happened, Refused, StopsAt, PlayedTo, PlayStops}
+use Rattle.artery_cli.proofs.Sinks.{appends_nothing, appends_more, appends_kept, takes_more, front_of_front, whole_is_front}
 use Rattle.artery_script.specs.declared.event.Event.{Event}
 use Rattle.artery_world.specs.declared.fault.Why.{Why}
 use Rattle.artery_world.specs.declared.fault.WorldLimit.{WorldLimit}
@@ -39,26 +44,6 @@ refused_before event copy old out fault law c o h before =
     ∙ ap (λ e. with_lines_before_result before (step e (seen old []))) (sym c)
     ∙ ap (λ ls. with_lines_before_result before (step copy (seen old ls))) (sym o)
     ∙ ap (with_lines_before_result before) h
-
-pub keeps_same : (held : Option (List ℕ)) → Keeps held held
-keeps_same None = tt
-keeps_same (Some xs) = refl
-
-pub appends_nothing : (held : Option (List ℕ)) → Appends held held []
-appends_nothing None = tt
-appends_nothing (Some xs) = sym (append-nil xs)
-
-appends_more : (old mid new : Option (List ℕ)) (xs ys : List ℕ) → Appends old mid xs → Appends mid new ys → Appends old new (xs ++ ys)
-appends_more None mid new xs ys h k = tt
-appends_more (Some a) None new xs ys h k = absurd h
-appends_more (Some a) (Some b) None xs ys h k = absurd k
-appends_more (Some a) (Some b) (Some c) xs ys h k = k ∙ ap (λ front. front ++ ys) h ∙ append_assoc a xs ys
-
-appends_kept : (old mid new : Option (List ℕ)) (xs : List ℕ) → Appends old mid xs → Keeps mid new → Appends old new xs
-appends_kept None mid new xs h k = tt
-appends_kept (Some a) None new xs h k = absurd h
-appends_kept (Some a) (Some b) None xs h k = absurd k
-appends_kept (Some a) (Some b) (Some c) xs h k = k ∙ h
 
 -- so far a script was played: these lines were written, and the rest is still to be played behind them
 pub record PlayedSoFar (all rest : List ScriptLine) (net : Net) (old new : Option (List ℕ)) : Type 0 where
@@ -107,3 +92,58 @@ line_is_first items all i x same h e =
     ∙ ap (λ y. y ∷ drop (suc i) items) (sym e)
     ∙ ap (λ (n : ℕ). x ∷ drop n items) (sym (add-one i))
     ∙ ap (λ ls. x ∷ drop (i + 1) ls) same
+
+-- ---- the journal of a run goes on behind the lines that were written so far
+
+-- an event adds lines behind those that were written before it
+with_front : (lines : List Line) (r : Result World WorldFault) (v : World) → with_lines_before_result lines r ≡ Ok v → IsFrontOf lines v.journal
+with_front lines (Ok u) v h =
+    let same : with_lines_before lines u ≡ v = cc in
+    (u.journal, ap (λ (w : World). w.journal) same)
+with_front lines (Err fault) v h = absurd cc
+
+step_grows : GoesOn → (event : Event) (net : Net) (lines : List Line) (v : World) → step event (seen net lines) ≡ Ok v → IsFrontOf lines v.journal
+step_grows law event net lines v h = with_front lines (step event (seen net [])) v (sym (law lines event (seen net [])) ∙ ap (step event) (seen_before net lines) ∙ h)
+
+run_grows_by : GoesOn → (l : ScriptLine) (ls : List ScriptLine) (net : Net) (lines : List Line) → ((after : Net) (longer : List Line) → IsFrontOf longer (run_from ls (seen after longer)).world.journal)
+    → (r : Result World WorldFault) → step l.event (seen net lines) ≡ r → IsFrontOf lines (goes_on l.line (seen net lines) (run_from ls) r).world.journal
+run_grows_by law l ls net lines rest (Ok v) h = front_of_front lines v.journal _ (step_grows law l.event net lines v h) (rest v.net v.journal)
+run_grows_by law l ls net lines rest (Err fault) h = whole_is_front lines
+
+run_grows : GoesOn → (rest : List ScriptLine) (net : Net) (lines : List Line) → IsFrontOf lines (run_from rest (seen net lines)).world.journal
+run_grows law [] net lines = whole_is_front lines
+run_grows law (l ∷ ls) net lines = run_grows_by law l ls net lines (λ after longer. run_grows law ls after longer) (step l.event (seen net lines)) refl
+
+-- the lines so far are the first of the whole journal
+so_far_is_front : GoesOn → (all rest : List ScriptLine) (net : Net) (lines : List Line) → run_from rest (seen net lines) ≡ run_from all (seen (record { started = []; live = []; pending = []; links = [] }) [])
+    → IsFrontOf lines (run_from all (seen (record { started = []; live = []; pending = []; links = [] }) [])).world.journal
+so_far_is_front law all rest net lines h = let P : Run → Type 0 = λ x. IsFrontOf lines x.world.journal in subst P h (run_grows law rest net lines)
+
+pub plays_stopped : GoesOn → (all rest more : List ScriptLine) (l : ScriptLine) (net : Net) (old mid new : Option (List ℕ)) (stop : Stop)
+    → PlayedSoFar all rest net old mid → rest ≡ l ∷ more → StopsAt stop l.event net mid new → PlayStops stop all old new
+plays_stopped law all rest more l net old mid new stops.Read p r h = absurd h
+plays_stopped law all rest more l net old mid new stops.NoMemory p r h = record {
+  lines = p.lines;
+  is_front = so_far_is_front law all rest net p.lines p.left;
+  written = appends_kept old mid new _ p.written h;
+}
+plays_stopped law all rest more l net old mid new stops.Write p r h =
+    let left : run_from more (seen h.after (p.lines ++ h.lines)) ≡ run_from all (seen (record { started = []; live = []; pending = []; links = [] }) []) =
+    ap (goes_on l.line (seen net p.lines) (run_from more)) (sym (h.happened p.lines)) ∙ ap (λ ls. run_from ls (seen net p.lines)) (sym r) ∙ p.left in
+    record {
+      lines = p.lines ++ h.lines;
+      is_front = so_far_is_front law all more h.after (p.lines ++ h.lines) left;
+      taken = (let P : List ℕ → Type 0 = TakesFront old new in subst P (sym (flat_map-append _ p.lines h.lines)) (takes_more old mid new _ _ p.written h.taken));
+    }
+
+-- the event happened, but its lines could not be written
+pub event_stopped : (event copy : Event) (old new : Net) (out lines : List Line) (held held' : Option (List ℕ)) (stop : Stop) → GoesOn → copy ≡ event → out ≡ []
+    → step copy (seen old out) ≡ Ok (seen new lines) → WritingStops stop (journal_text lines) held held' → StopsAt stop event old held held'
+event_stopped event copy old new out lines held held' stops.Read law c o h w = absurd w
+event_stopped event copy old new out lines held held' stops.NoMemory law c o h w = w
+event_stopped event copy old new out lines held held' stops.Write law c o h w = record {
+  lines = lines;
+  after = new;
+  taken = w;
+  happened = happened_before event copy old new out lines law c o h;
+}

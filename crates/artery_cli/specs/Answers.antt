@@ -1,20 +1,39 @@
 -- What a command writes, and its status.
-use Rattle.std.specs.Prelude.{◌≡◌, ℕ, Bool, false, nat_lt, if◌then◌else◌, List, [], ◌∷◌, ◌++◌, length, codes, decimal, bytes_eq, Option, None, Some, Result, Ok, Err}
+use Rattle.std.specs.Prelude.{◌≡◌, ℕ, ◌+◌, nat_lt, if◌then◌else◌, List, [], ◌∷◌, ◌++◌, length, take, codes, decimal, Option, None, Some, Result, Ok, Err}
+use Rattle.std.specs.Result.{result_ok}
 use Rattle.std.specs.Io.KnownBytes.{Appends}
+use Rattle.artery_base.specs.Reading.{hex_of}
+use Rattle.artery_capture.specs.ControlText.{control_text, fault_text}
+use Rattle.artery_capture.specs.Shown.{front_lines, last_line, has_fault}
+use Rattle.artery_making.specs.Made.{stream_made}
+use Rattle.artery_making.specs.declared.fault.MakeFault.{MakeFault}
+use Rattle.artery_making.specs.declared.fault.MakeFault.TheVariants as make_faults
+use Rattle.artery_cli.specs.declared.command.Command.{Command}
+use Rattle.artery_cli.specs.declared.command.Command.TheVariants.{Show, Whole}
+use Rattle.artery_cli.specs.declared.command.Task.{Task}
+use Rattle.artery_cli.specs.declared.command.Task.TheVariants.{Replay, Make, CheckControl}
 use Rattle.artery_cli.specs.declared.input.TheConstants.{MOST_BYTES}
+use Rattle.artery_cli.specs.declared.refusal.Refusal.{Refusal}
+use Rattle.artery_cli.specs.declared.refusal.Refusal.TheVariants.{TooManyBytes, TooManyLines, BadLine}
+use Rattle.artery_cli.specs.Command.{command_of}
+use Rattle.artery_control.specs.declared.control.Control.{Control}
+use Rattle.artery_control.specs.declared.fault.ControlFault.{ControlFault}
+use Rattle.artery_control.specs.Message.{message_of}
+use Rattle.artery_lines.specs.Lines.{lines_of}
+use Rattle.artery_lines.specs.declared.lines.TheConstants.{MOST_LINES}
+use Rattle.artery_script.specs.declared.script.ScriptFault.{ScriptFault}
+use Rattle.artery_script.specs.declared.script.ScriptFault.TheVariants as script_faults
+use Rattle.artery_script.specs.declared.script.ScriptLine.{ScriptLine}
+use Rattle.artery_script.specs.Script.{script_of}
 use Rattle.artery_world.specs.declared.fault.Why.{Why}
 use Rattle.artery_world.specs.declared.fault.Why.TheVariants.{UsedUid, AddressLive, NotLive, OwnAddress}
 use Rattle.artery_world.specs.declared.fault.WorldLimit.{WorldLimit}
 use Rattle.artery_world.specs.declared.fault.WorldLimit.TheVariants.{Nodes, Kept}
 use Rattle.artery_world.specs.declared.fault.WorldFault.{WorldFault}
 use Rattle.artery_world.specs.declared.fault.WorldFault.TheVariants.{NotAllowed, Limit, NoMemory}
-use Rattle.artery_script.specs.declared.script.ScriptFault.{ScriptFault}
-use Rattle.artery_script.specs.declared.script.ScriptFault.TheVariants as script_faults
-use Rattle.artery_script.specs.declared.script.ScriptLine.{ScriptLine}
 use Rattle.artery_world.specs.declared.line.Line.{Line}
 use Rattle.artery_world.specs.Laws.{IsLawful}
 use Rattle.artery_world.specs.Replay.{Run, run}
-use Rattle.artery_script.specs.Script.{script_of}
 use Rattle.artery_world.specs.Texts.{journal_text}
 
 -- what is written, and the status
@@ -22,12 +41,41 @@ pub record Answer : Type 0 where
   pub written : List ℕ
   pub status : ℕ
 
+-- what the sink holds more is what the answer writes, and the status is the answer's
+pub record Answers (a : Answer) (old new : Option (List ℕ)) (status : ℕ) : Type 0 where
+  pub written : Appends old new a.written
+  pub is_status : status ≡ a.status
+
+-- the line that tells that memory ran out
+abbrev pub memory_fault : List ℕ
+memory_fault = codes "fault memory\n"
+
+-- the line that tells that the source failed
+abbrev pub read_fault : List ℕ
+read_fault = codes "fault read\n"
+
+-- no definition asks for memory, so this is no command's answer
+abbrev pub memory_answer : Answer
+memory_answer = record { written = memory_fault; status = 9 }
+
+-- ---- input that is refused before it is done
+
+-- an input that is too long is told with status 6, and a line that says nothing with its number and status 2
+abbrev pub refusal_answer : Refusal → Answer
+refusal_answer TooManyBytes = record { written = codes "fault limit bytes\n"; status = 6 }
+refusal_answer TooManyLines = record { written = codes "fault limit lines\n"; status = 6 }
+refusal_answer (BadLine line) = record { written = codes "fault line " ++ decimal line ++ codes "\n"; status = 2 }
+
+-- ---- replay
+
+-- the word for an event that is not allowed
 abbrev pub why_word : Why → List ℕ
 why_word UsedUid = codes "used-uid"
 why_word AddressLive = codes "address-live"
 why_word NotLive = codes "not-live"
 why_word OwnAddress = codes "own-address"
 
+-- the word for a limit of the world
 abbrev pub limit_word : WorldLimit → List ℕ
 limit_word Nodes = codes "nodes"
 limit_word Kept = codes "kept"
@@ -36,8 +84,9 @@ limit_word Kept = codes "kept"
 abbrev pub stop_text : ℕ → WorldFault → List ℕ
 stop_text line (NotAllowed why) = codes "fault line " ++ decimal line ++ codes " not-allowed " ++ why_word why ++ codes "\n"
 stop_text line (Limit which) = codes "fault line " ++ decimal line ++ codes " limit " ++ limit_word which ++ codes "\n"
-stop_text line NoMemory = codes "fault memory\n"
+stop_text line NoMemory = memory_fault
 
+-- the status of such a run: 5 for an event that is not allowed, 6 at a limit
 abbrev pub stop_status : WorldFault → ℕ
 stop_status (NotAllowed why) = 5
 stop_status (Limit which) = 6
@@ -48,45 +97,116 @@ abbrev pub stopped : List ℕ → Option (ℕ × WorldFault) → Answer
 stopped journal None = record { written = journal; status = 0 }
 stopped journal (Some s) = record { written = journal ++ stop_text s.0 s.1; status = stop_status s.1 }
 
+-- the answer of a run is its journal and where it stopped
 abbrev pub played : Run → Answer
 played r = stopped (journal_text r.world.journal) r.stop
 
 -- a script that is read is played; the first bad line is told, and more than 1,000,000 lines
 abbrev pub script_answer : Result (List ScriptLine) ScriptFault → Answer
 script_answer (Ok script) = played (run script)
-script_answer (Err (script_faults.BadLine line)) = record { written = codes "fault line " ++ decimal line ++ codes "\n"; status = 2 }
-script_answer (Err script_faults.TooManyLines) = record { written = codes "fault limit lines\n"; status = 6 }
-script_answer (Err script_faults.NoMemory) = record { written = codes "fault memory\n"; status = 9 }
+script_answer (Err (script_faults.BadLine line)) = refusal_answer (BadLine line)
+script_answer (Err script_faults.TooManyLines) = refusal_answer TooManyLines
+script_answer (Err script_faults.NoMemory) = memory_answer
 
--- more than 67,108,864 bytes are refused before they are read as a script
-abbrev pub replay_answer : List ℕ → Answer
-replay_answer text = if nat_lt MOST_BYTES (length text) then record { written = codes "fault limit bytes\n"; status = 6 } else script_answer (script_of text)
+-- the journal of what a text was read as: that of the run of its script, and nothing where it is none
+abbrev pub journal_of_script : Result (List ScriptLine) ScriptFault → List Line
+journal_of_script (Ok script) = (run script).world.journal
+journal_of_script (Err fault) = []
 
--- whether the words are the one word `replay`
-abbrev pub is_replay : List (List ℕ) → Bool
-is_replay [] = false
-is_replay (word ∷ []) = bytes_eq word (codes "replay")
-is_replay (word ∷ next ∷ words) = false
+-- the journal that `replay` writes of a text
+abbrev pub journal_of : List ℕ → List Line
+journal_of text = if nat_lt MOST_BYTES (length text) then [] else journal_of_script (script_of text)
 
--- `replay` answers its input; no other words are known
+-- the line of the event that did not happen, where there was one
+abbrev pub stop_line : Option (ℕ × WorldFault) → List ℕ
+stop_line None = []
+stop_line (Some s) = stop_text s.0 s.1
+
+-- what stands behind the journal of what a text was read as: the line of the event at which its run stopped, or the fault of the text
+abbrev pub script_fault_line : Result (List ScriptLine) ScriptFault → List ℕ
+script_fault_line (Ok script) = stop_line (run script).stop
+script_fault_line (Err fault) = (script_answer (Err fault)).written
+
+-- what `replay` writes behind the journal: nothing, or one fault line
+abbrev pub fault_line : List ℕ → List ℕ
+fault_line text = if nat_lt MOST_BYTES (length text) then codes "fault limit bytes\n" else script_fault_line (script_of text)
+
+-- what was written is the journal of the text's script and at most one fault line behind it, and this journal is lawful
+pub record WritesLawfully (text : List ℕ) (old new : Option (List ℕ)) : Type 0 where
+  pub written : Appends old new (journal_text (journal_of text) ++ fault_line text)
+  pub lawful : IsLawful (journal_of text)
+
+-- ---- make
+
+-- the bytes that the lines describe, or the first fault
+abbrev pub made_answer : Result (List ℕ) MakeFault → Answer
+made_answer (Ok bytes) = record { written = bytes; status = 0 }
+made_answer (Err (make_faults.BadLine line)) = refusal_answer (BadLine line)
+made_answer (Err make_faults.TooManyLines) = refusal_answer TooManyLines
+made_answer (Err make_faults.NoMemory) = memory_answer
+
+-- ---- check control
+
+-- a payload, where its line spells one and no more lines follow it
+abbrev pub payload_unless : ℕ → Option (List ℕ) → Result (List ℕ) Refusal
+payload_unless more None = Err (BadLine 1)
+payload_unless more (Some payload) = if nat_lt 0 more then Err (BadLine 2) else Ok payload
+
+-- the payload in hexadecimal on the one line of a text; else the first line that is missing, bad or too many
+abbrev pub payload_in : List (List ℕ) → Result (List ℕ) Refusal
+payload_in [] = Err (BadLine 1)
+payload_in (line ∷ lines) = payload_unless (length lines) (result_ok (hex_of line))
+
+-- the payload that a text tells
+abbrev pub payload_of : List ℕ → Result (List ℕ) Refusal
+payload_of text = if nat_lt MOST_LINES (length (lines_of text)) then Err TooManyLines else payload_in (lines_of text)
+
+-- the line of a payload: the control message that it is, or with status 1 its first fault
+abbrev pub checked : Result Control ControlFault → Answer
+checked (Ok control) = record { written = codes "control " ++ control_text control ++ codes "\n"; status = 0 }
+checked (Err fault) = record { written = codes "fault control " ++ fault_text fault ++ codes "\n"; status = 1 }
+
+-- the answer of a payload under a manifest, unless there is none
+abbrev pub check_answer : List ℕ → Result (List ℕ) Refusal → Answer
+check_answer manifest (Ok payload) = checked (message_of manifest payload)
+check_answer manifest (Err refusal) = refusal_answer refusal
+
+-- ---- show
+
+-- the lines of all bytes: the last one tells what is left, or with status 1 the fault of the stream
+abbrev pub capture_answer : List ℕ → Answer
+capture_answer bytes = record { written = front_lines bytes ++ last_line bytes; status = if has_fault bytes then 1 else 0 }
+
+-- the lines of the whole frames that end within the limit or with the byte that passes it
+abbrev pub long_answer : List ℕ → Answer
+long_answer bytes = record { written = front_lines (take (MOST_BYTES + 1) bytes) ++ codes "fault limit bytes\n"; status = 6 }
+
+-- a connection of at most 67,108,864 bytes is told whole
+abbrev pub show_answer : List ℕ → Answer
+show_answer bytes = if nat_lt MOST_BYTES (length bytes) then long_answer bytes else capture_answer bytes
+
+-- ---- all commands
+
+-- the answer of a task to an input within the limit
+abbrev pub text_answer : Task → List ℕ → Answer
+text_answer Replay text = script_answer (script_of text)
+text_answer Make text = made_answer (stream_made text)
+text_answer (CheckControl manifest) text = check_answer manifest (payload_of text)
+
+-- an input of more than 67,108,864 bytes is refused
+abbrev pub task_answer : Task → List ℕ → Answer
+task_answer task text = if nat_lt MOST_BYTES (length text) then refusal_answer TooManyBytes else text_answer task text
+
+-- the answer of a command to its input; other words are no command
+abbrev pub answer_of : Option Command → List ℕ → Answer
+answer_of None text = record { written = codes "fault words\n"; status = 2 }
+answer_of (Some Show) text = show_answer text
+answer_of (Some (Whole task)) text = task_answer task text
+
+-- the answer to words and an input
 abbrev pub answer : List (List ℕ) → List ℕ → Answer
-answer words text = if is_replay words then replay_answer text else record { written = codes "fault words\n"; status = 2 }
-
--- what the sink holds more is what the answer writes, and the status is the answer's
-pub record Answers (a : Answer) (old new : Option (List ℕ)) (status : ℕ) : Type 0 where
-  pub written : Appends old new a.written
-  pub is_status : status ≡ a.status
+answer words text = answer_of (command_of words) text
 
 -- neither the source nor the sink failed, and memory was there
 abbrev pub IsDone : ℕ → Type 0
 IsDone status = (status ≡ 3 → ⊥) × (status ≡ 4 → ⊥) × (status ≡ 9 → ⊥)
-
-abbrev pub read_fault : List ℕ
-read_fault = codes "fault read\n"
-
--- what was written begins with a lawful journal; behind it stands nothing, or one fault line
-pub record WritesLawfully (old new : Option (List ℕ)) : Type 0 where
-  pub journal : List Line
-  pub fault : List ℕ
-  pub written : Appends old new (journal_text journal ++ fault)
-  pub lawful : IsLawful journal

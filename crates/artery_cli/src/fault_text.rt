@@ -1,6 +1,7 @@
 //! The lines that tell a fault.
 ghost use Rattle.std.specs.Prelude.{◌≡◌, ◌++◌, codes, decimal, OnOk, IfOk, take, length};
 ghost use Rattle.artery_cli.specs.Answers.{limit_word, stop_status, stop_text, why_word};
+ghost use Rattle.artery_world.specs.declared.fault.WorldFault.TheVariants.{NoMemory as without_memory};
 
 use artery_base::{Bytes, NoMemory, print_number};
 use artery_world::{Why, WorldFault, WorldLimit};
@@ -66,7 +67,7 @@ fn told(alloc: Global, line: u64, verb: &[u8], word: &[u8]) -> Result<Bytes, NoM
 /// The status of a run that stopped.
 pub fn stop_status(fault: WorldFault) -> u8
     ensures value { result ≡ stop_status fault }
-    ensures plain { (result ≡ 3 → ⊥) × (result ≡ 4 → ⊥) }
+    ensures plain { (result ≡ 3 → ⊥) × (result ≡ 4 → ⊥) × (result ≡ 9 → fault ≡ without_memory) }
 {
     match fault {
         WorldFault::NotAllowed { .. } => 5,

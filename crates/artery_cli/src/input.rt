@@ -1,11 +1,12 @@
-ghost use Rattle.std.specs.Prelude.{ℕ, ◌+◌, ◌<◌, length, IfOk, IfSome, IsErrOf};
+ghost use Rattle.std.specs.Prelude.{ℕ, List, ◌+◌, ◌<◌, length, vec_len, IfOk, IfSome, IsErrOf};
+ghost use Rattle.std.specs.Io.KnownBytes.{Consumes};
 ghost use Rattle.artery_base.specs.Faults.{Rose};
-ghost use Rattle.artery_cli.specs.Playing.{Gathers, ReadsAtMost};
+ghost use Rattle.artery_cli.specs.Reading.{Gathers, IsWithin, ReadsAtMost};
 ghost use Rattle.artery_cli.specs.declared.input.TheConstants.{MOST_BYTES};
 ghost use Rattle.artery_cli.specs.declared.stop.Stop.TheVariants as stops;
 
 use crate::stop::Stop;
-use artery_base::{Bytes, Failed, Source};
+use artery_base::{Bytes, Failed, NoMemory, Source};
 use std::alloc::Global;
 
 /// The most bytes of an input that is read whole.
@@ -24,8 +25,10 @@ pub enum Gathered {
 pub fn gather<S: Source>(alloc: Global, input: &mut S, buffer: &mut [u8]) -> Result<Gathered, Stop>
     requires { 0 < length buffer.old }
     ensures whole { IfOk result (λ gathered. IfSome (S.left input.old) (λ text. Gathers gathered text)) }
+    ensures within { IfOk result IsWithin }
     ensures bounded { ReadsAtMost (MOST_BYTES + 1) (S.left input.old) (S.left input.new) }
     ensures read { IsErrOf result stops.Read → Rose (S.faults input.old) (S.faults input.new) }
+    ensures seen { IsErrOf result stops.Read → (seen : List ℕ) × Consumes (S.left input.old) (S.left input.new) seen }
     ensures other { IsErrOf result stops.Write → ⊥ }
 {
     let mut bytes = Bytes::new(alloc);
@@ -46,4 +49,11 @@ pub fn gather<S: Source>(alloc: Global, input: &mut S, buffer: &mut [u8]) -> Res
         }
     }
     Err(Stop::NoMemory)
+}
+
+/// A buffer for pieces of an input.
+pub fn new_buffer(alloc: Global) -> Result<Vec<u8>, NoMemory>
+    ensures { IfOk result (λ buffer. 0 < vec_len buffer) }
+{
+    Ok(vec![in alloc; 0u8; 65536]?)
 }

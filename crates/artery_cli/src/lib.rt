@@ -3,17 +3,26 @@
 //! `run` does the command that its words name: it reads what it reads of the source, writes its
 //! answer to the sink and gives the status. What it writes, and the status, are a stated function
 //! of the words and the input; only want of memory, a source that fails and a sink that fails
-//! change them.
+//! change them, and then what was written is a stated part of it.
 #![tactic(auto)]
 
-mod answering;
+mod checking;
+mod command;
 mod fault_text;
 mod input;
+mod making;
 mod playing;
+mod refusal;
+mod replaying;
+mod showing;
 mod stop;
+mod task;
+mod telling;
 mod top;
 
+pub use command::{Command, Task};
 pub use input::MOST_BYTES;
+pub use refusal::Refusal;
 pub use top::run;
 
 #[cfg(test)]

@@ -1,5 +1,7 @@
 use crate::run;
-use artery_base::{Bytes, MemSink, MemSource, NoMemory, Numbers, Text, print_number, text_of};
+use artery_base::{
+    Bytes, MemSink, MemSource, NoMemory, Numbers, Text, print_number, read_hex, text_of,
+};
 use std::alloc::Global;
 use std::test::Fail;
 
@@ -25,16 +27,24 @@ fn word(alloc: Global, text: &[u8]) -> Result<Text, Fail> {
     }
 }
 
-/// Runs one word over an input; the given reads and writes fail.
+/// The words of a call, which spaces part.
+fn words_in(alloc: Global, call: &[u8]) -> Result<Vec<Text>, Fail> {
+    let mut words = Vec::new(alloc);
+    for part in call.split(|byte| *byte == b' ') {
+        words.push(word(alloc, part)?)?;
+    }
+    Ok(words)
+}
+
+/// Runs a call over an input; the given reads and writes fail.
 fn run_once(
     alloc: Global,
-    name: &[u8],
+    call: &[u8],
     input: &[u8],
     reads: &[u64],
     writes: &[u64],
 ) -> Result<Left, Fail> {
-    let mut words = Vec::new(alloc);
-    words.push(word(alloc, name)?)?;
+    let words = words_in(alloc, call)?;
     let bytes = Bytes::from_slice(alloc, input)?;
     let mut source = MemSource::new(bytes, numbers(alloc, reads)?);
     let mut sink = MemSink::new(alloc, numbers(alloc, writes)?);
@@ -43,9 +53,49 @@ fn run_once(
     Ok(Left { status, written })
 }
 
-fn answers(alloc: Global, input: &[u8], written: &[u8], status: u8) -> Result<bool, Fail> {
-    let left = run_once(alloc, b"replay", input, &[], &[])?;
+/// Whether a call answers an input so.
+fn tells(
+    alloc: Global,
+    call: &[u8],
+    input: &[u8],
+    written: &[u8],
+    status: u8,
+) -> Result<bool, Fail> {
+    let left = run_once(alloc, call, input, &[], &[])?;
     Ok(left.status == status && left.written.as_slice() == written)
+}
+
+/// Whether `replay` answers a script so.
+fn answers(alloc: Global, input: &[u8], written: &[u8], status: u8) -> Result<bool, Fail> {
+    tells(alloc, b"replay", input, written, status)
+}
+
+/// Whether a call of which given reads and writes fail leaves this.
+fn leaves(
+    alloc: Global,
+    call: &[u8],
+    input: &[u8],
+    reads: &[u64],
+    writes: &[u64],
+    written: &[u8],
+    status: u8,
+) -> Result<bool, Fail> {
+    let left = run_once(alloc, call, input, reads, writes)?;
+    Ok(left.status == status && left.written.as_slice() == written)
+}
+
+/// Bytes that are spelled in hexadecimal.
+fn bytes_of(alloc: Global, text: &[u8]) -> Result<Bytes, Fail> {
+    match read_hex(alloc, text) {
+        Ok(bytes) => Ok(bytes),
+        Err(_) => Err(Fail::from("no hexadecimal")),
+    }
+}
+
+/// Whether `show` answers the bytes of a connection so.
+fn shows(alloc: Global, bytes: &[u8], written: &[u8], status: u8) -> Result<bool, Fail> {
+    let input = bytes_of(alloc, bytes)?;
+    tells(alloc, b"show", input.as_slice(), written, status)
 }
 
 /// Three nodes that send to each other in turns.
@@ -171,14 +221,232 @@ fn scripts_are_answered(rt: HostRuntime) -> Result<(), Fail> {
     Ok(())
 }
 
+/// The first frame of a connection from A to B: it asks B for its UID.
+const HANDSHAKE: &[u8] = b"stream 1
+frame 1 0 0 17 - - d 0a150a110a04616b6b611201411a02683120b0c701100112110a04616b6b611201421a02683220b0c7017801
+";
+
+/// The bytes of that connection.
+const HANDSHAKE_BYTES: &[u8] =
+    b"414b4b41014f000000000000000100000000000000110000001c0000001e00000020000000000000000100640a150a110a04616b6b611201411a02683120b0c701100112110a04616b6b611201421a02683220b0c7017801";
+
+/// What `show` tells of them.
+const HANDSHAKE_SHOWN: &[u8] = b"stream 1
+frame 1 0 0 17 - - d 0a150a110a04616b6b611201411a02683120b0c701100112110a04616b6b611201421a02683220b0c7017801
+control handshake-req akka://A@h1:25520#1 akka://B@h2:25520 1
+rest 0
+";
+
+/// A control stream: the answer to a handshake, a numbered message and its Ack.
+const CONTROL_BYTES: &[u8] =
+    b"414b4b41013e000000000000000200000000000000110000001c0000001e00000020000000000000000100650a150a110a04616b6b611201421a02683220b0c70110027001780145000000000000000100000000000000110000001c0000001e000000200000000000000001006a0a02010210051a017820012a150a110a04616b6b611201411a02683120b0c70110013c000000000000000200000000000000110000001c0000001e000000200000000000000001006b080112150a110a04616b6b611201421a02683220b0c7011002";
+
+/// What `show` tells of it.
+const CONTROL_SHOWN: &[u8] = b"stream 1
+frame 2 0 0 17 - - e 0a150a110a04616b6b611201421a02683220b0c701100270017801
+control handshake-rsp akka://B@h2:25520#2 1 1
+frame 1 0 0 17 - - j 0a02010210051a017820012a150a110a04616b6b611201411a02683120b0c7011001
+control numbered 1 5 x 0102 akka://A@h1:25520#1
+frame 2 0 0 17 - - k 080112150a110a04616b6b611201421a02683220b0c7011002
+control ack 1 akka://B@h2:25520#2
+rest 0
+";
+
+/// An ordinary stream: a message whose recipient and manifest are told by their numbers in tables.
+const ORDINARY_BYTES: &[u8] =
+    b"414b4b410220000000000001010100000000000000040000001c000000000000ff000000ff000000ff";
+
+/// Whether `make` gives the bytes of a connection again from the lines that `show` tells of them, but for
+/// those that only explain.
+fn is_made_again(alloc: Global, text: &[u8]) -> Result<bool, Fail> {
+    let bytes = bytes_of(alloc, text)?;
+    let shown = run_once(alloc, b"show", bytes.as_slice(), &[], &[])?;
+    let mut lines = Bytes::new(alloc);
+    for line in shown.written.as_slice().split(|byte| *byte == b'\n') {
+        if line.starts_with(b"stream ") || line.starts_with(b"frame ") {
+            lines.extend_from_slice(line)?;
+            lines.extend_from_slice(b"\n")?;
+        }
+    }
+    tells(alloc, b"make", lines.as_slice(), bytes.as_slice(), 0)
+}
+
+#[test]
+fn connections_are_shown_and_made(rt: HostRuntime) -> Result<(), Fail> {
+    let alloc = rt.alloc();
+    let bytes = bytes_of(alloc, HANDSHAKE_BYTES)?;
+    assert!(rt; tells(alloc, b"make", HANDSHAKE, bytes.as_slice(), 0)?);
+    assert!(rt; shows(alloc, HANDSHAKE_BYTES, HANDSHAKE_SHOWN, 0)?);
+    assert!(rt; shows(alloc, CONTROL_BYTES, CONTROL_SHOWN, 0)?);
+    assert!(rt;
+        shows(
+            alloc,
+            ORDINARY_BYTES,
+            b"stream 2\nframe 1 1 1 4 - @0 @0 00ff\nrest 0\n",
+            0
+        )?
+    );
+    assert!(rt; is_made_again(alloc, HANDSHAKE_BYTES)?);
+    assert!(rt; is_made_again(alloc, CONTROL_BYTES)?);
+    assert!(rt; is_made_again(alloc, ORDINARY_BYTES)?);
+    assert!(rt; shows(alloc, b"-", b"rest 0\n", 0)?);
+    assert!(rt; shows(alloc, b"414b4b", b"rest 3\n", 0)?);
+    assert!(rt; shows(alloc, b"414b5841", b"fault stream bad-magic 2\n", 1)?);
+    assert!(rt; shows(alloc, b"414b4b4103", b"fault stream bad-stream 4\n", 1)?);
+    assert!(rt;
+        shows(
+            alloc,
+            b"414b4b410101000400",
+            b"stream 1\nfault stream too-long 5\n",
+            1
+        )?
+    );
+    assert!(rt;
+        shows(
+            alloc,
+            b"414b4b41021b0000000000000000000000000000000000000000000000000000000000000500000000",
+            b"stream 2\ndrop short 27\nrest 5\n",
+            0
+        )?
+    );
+    assert!(rt;
+        shows(
+            alloc,
+            b"414b4b41011c000000010000000000000000000000000000000000000000000000000000001c00000000010000000000000000000000000000000000000000000000000000",
+            b"stream 1\ndrop version 1\ndrop metadata\nrest 0\n",
+            0
+        )?
+    );
+    Ok(())
+}
+
+#[test]
+fn lines_that_describe_no_connection_are_told(rt: HostRuntime) -> Result<(), Fail> {
+    let alloc = rt.alloc();
+    assert!(rt; tells(alloc, b"make", b"", b"fault line 1\n", 2)?);
+    assert!(rt; tells(alloc, b"make", b"stream 3\n", b"fault line 1\n", 2)?);
+    assert!(rt; tells(alloc, b"make", b"stream 1", b"AKKA\x01", 0)?);
+    assert!(rt; tells(alloc, b"make", b"stream 1\n\n", b"fault line 2\n", 2)?);
+    assert!(rt;
+        tells(
+            alloc,
+            b"make",
+            b"stream 1\nstream 1\n",
+            b"fault line 2\n",
+            2
+        )?
+    );
+    assert!(rt;
+        tells(
+            alloc,
+            b"make",
+            b"stream 2\nframe 1 0 0 4 - @7 T -\nframe 1 0 256 4 - @7 T -\n",
+            b"fault line 3\n",
+            2
+        )?
+    );
+    Ok(())
+}
+
+#[test]
+fn payloads_are_checked(rt: HostRuntime) -> Result<(), Fail> {
+    let alloc = rt.alloc();
+    assert!(rt;
+        tells(
+            alloc,
+            b"check control n",
+            b"0807\n",
+            b"control heartbeat-rsp 7\n",
+            0
+        )?
+    );
+    assert!(rt; tells(alloc, b"check control m", b"-", b"control heartbeat\n", 0)?);
+    assert!(rt;
+        tells(
+            alloc,
+            b"check control k",
+            b"0801\n",
+            b"fault control missing 2\n",
+            1
+        )?
+    );
+    assert!(rt;
+        tells(
+            alloc,
+            b"check control k",
+            b"08011200\n",
+            b"fault control missing 2.1\n",
+            1
+        )?
+    );
+    assert!(rt;
+        tells(
+            alloc,
+            b"check control m",
+            b"0b\n",
+            b"fault control wire-type 0 -\n",
+            1
+        )?
+    );
+    assert!(rt;
+        tells(
+            alloc,
+            b"check control z",
+            b"-\n",
+            b"fault control unknown-manifest\n",
+            1
+        )?
+    );
+    assert!(rt; tells(alloc, b"check control m", b"", b"fault line 1\n", 2)?);
+    assert!(rt; tells(alloc, b"check control m", b"0\n\n", b"fault line 1\n", 2)?);
+    assert!(rt; tells(alloc, b"check control m", b"-\n\n", b"fault line 2\n", 2)?);
+    assert!(rt; tells(alloc, b"check control %6d", b"-\n", b"fault words\n", 2)?);
+    assert!(rt; tells(alloc, b"check control", b"-\n", b"fault words\n", 2)?);
+    assert!(rt; tells(alloc, b"check journal x", b"-\n", b"fault words\n", 2)?);
+    Ok(())
+}
+
 #[test]
 fn faults_of_the_outside_are_told(rt: HostRuntime) -> Result<(), Fail> {
     let alloc = rt.alloc();
-    let other = run_once(alloc, b"reply", b"", &[], &[])?;
-    assert!(rt; other.status == 2 && other.written.as_slice() == b"fault words\n".as_slice());
-    let read = run_once(alloc, b"replay", b"pass 1\n", &[2], &[])?;
-    assert!(rt; read.status == 3 && read.written.as_slice() == b"fault read\n".as_slice());
-    let write = run_once(alloc, b"replay", b"start akka://A@h1:1 1\n", &[], &[1])?;
-    assert!(rt; write.status == 4 && write.written.is_empty());
+    let start = b"start akka://A@h1:1 1\n";
+    let bytes = bytes_of(alloc, b"414b4b410200000000")?;
+    assert!(rt; leaves(alloc, b"reply", b"", &[], &[], b"fault words\n", 2)?);
+    assert!(rt; leaves(alloc, b"replay", start, &[2], &[], b"fault read\n", 3)?);
+    assert!(rt; leaves(alloc, b"replay", start, &[], &[1], b"", 4)?);
+    assert!(rt;
+        leaves(
+            alloc,
+            b"show",
+            bytes.as_slice(),
+            &[1],
+            &[],
+            b"fault read\n",
+            3
+        )?
+    );
+    assert!(rt;
+        leaves(
+            alloc,
+            b"show",
+            bytes.as_slice(),
+            &[2],
+            &[],
+            b"stream 2\ndrop short 0\nfault read\n",
+            3
+        )?
+    );
+    assert!(rt;
+        leaves(
+            alloc,
+            b"show",
+            bytes.as_slice(),
+            &[],
+            &[2],
+            b"stream 2\ndrop short 0\n",
+            4
+        )?
+    );
+    assert!(rt; leaves(alloc, b"make", HANDSHAKE, &[], &[1], b"", 4)?);
     Ok(())
 }

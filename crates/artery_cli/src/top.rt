@@ -1,29 +1,50 @@
-ghost use Rattle.std.specs.Prelude.{◌≡◌, ℕ, ◌+◌, ◌≤◌, true, false, List, IfOk, IfSome, IsErrOf};
-ghost use Rattle.std.specs.Io.KnownBytes.{Appends, Keeps};
+ghost use Rattle.std.specs.Prelude.{◌≡◌, ℕ, [], ◌+◌, ◌≤◌, true, Some, IfOk, IfErr, IfSome, IsErrOf};
+ghost use Rattle.std.specs.Io.KnownBytes.{Appends};
 ghost use Rattle.artery_base.specs.Faults.{Rose};
-ghost use Rattle.artery_cli.specs.Answers.{Answers, IsDone, WritesLawfully, answer, is_replay, read_fault};
-ghost use Rattle.artery_cli.specs.Playing.{ReadsAtMost};
+ghost use Rattle.artery_base.specs.Written.{TakesFront};
+ghost use Rattle.artery_cli.specs.Answers.{Answers, IsDone, WritesLawfully, answer, answer_of, memory_fault, read_fault};
+ghost use Rattle.artery_cli.specs.Command.{command_of, is_replay};
+ghost use Rattle.artery_cli.specs.Leaving.{Leaves, LeavesFront, LeavesPart, LeavesRead};
+ghost use Rattle.artery_cli.specs.Reading.{ReadsAtMost};
 ghost use Rattle.artery_cli.specs.declared.input.TheConstants.{MOST_BYTES};
 ghost use Rattle.artery_cli.specs.declared.stop.Stop.TheVariants as stops;
 
-use crate::answering::{new_buffer, put, replay};
+use crate::command::{Command, command_of};
+use crate::input::new_buffer;
+use crate::showing::show;
 use crate::stop::Stop;
+use crate::task::do_task;
+use crate::telling::tell;
 use artery_base::{Failed, Sink, Source, Text, write_all};
 use artery_world::prefix_law;
 use std::alloc::Global;
 
-/// Whether the words are the one word `replay`.
-fn is_replay(words: &[Text]) -> bool
-    ensures { result ≡ is_replay words.now }
+/// Does a command.
+#[tactic(auto, using(crate::proofs::Gathering::nothing_taken, crate::proofs::Stopping::leaves_nothing_here))]
+fn obey<S: Source, K: Sink>(
+    alloc: Global,
+    command: &Command,
+    input: &mut S,
+    output: &mut K,
+) -> Result<u8, Stop>
+    ensures answers { IfOk result (λ status. IfSome (S.left input.old) (λ text. Answers (answer_of (Some command.now) text) (K.held output.old) (K.held output.new) status)) }
+    ensures left { IfErr result (λ stop. IfSome (S.left input.old) (λ text. Leaves stop (Some command.now) text (K.held output.old) (K.held output.new))) }
+    ensures plain { IfOk result (λ status. (status ≡ 3 → ⊥) × (status ≡ 4 → ⊥) × (status ≡ 9 → ⊥)) }
+    ensures bounded { ReadsAtMost (MOST_BYTES + 1) (S.left input.old) (S.left input.new) }
+    ensures read { IsErrOf result stops.Read → Rose (S.faults input.old) (S.faults input.new) }
+    ensures seen { IsErrOf result stops.Read → LeavesRead (Some command.now) [] (S.left input.old) (S.left input.new) (K.held output.old) (K.held output.new) }
+    ensures later { K.faults output.old ≤ K.faults output.new }
+    ensures write { IsErrOf result stops.Write → Rose (K.faults output.old) (K.faults output.new) }
 {
-    match words {
-        [word] => word.as_slice() == b"replay".as_slice(),
-        _ => false,
+    let mut buffer = new_buffer(alloc)?;
+    match command {
+        Command::Show => show(alloc, input, output, &mut buffer),
+        Command::Whole(task) => do_task(alloc, task, input, output, &mut buffer),
     }
 }
 
 /// Does the command that the words name.
-#[tactic(auto, using(crate::proofs::Gathering::nothing_taken))]
+#[tactic(auto, using(crate::proofs::Gathering::nothing_taken, crate::proofs::Stopping::leaves_nothing_here, crate::proofs::Stopping::words_stop))]
 fn command<S: Source, K: Sink>(
     alloc: Global,
     words: &[Text],
@@ -31,25 +52,25 @@ fn command<S: Source, K: Sink>(
     output: &mut K,
 ) -> Result<u8, Stop>
     ensures answers { IfOk result (λ status. IfSome (S.left input.old) (λ text. Answers (answer words.now text) (K.held output.old) (K.held output.new) status)) }
-    ensures plain { IfOk result (λ status. (status ≡ 3 → ⊥) × (status ≡ 4 → ⊥)) }
+    ensures left { IfErr result (λ stop. IfSome (S.left input.old) (λ text. Leaves stop (command_of words.now) text (K.held output.old) (K.held output.new))) }
+    ensures plain { IfOk result (λ status. (status ≡ 3 → ⊥) × (status ≡ 4 → ⊥) × (status ≡ 9 → ⊥)) }
     ensures bounded { ReadsAtMost (MOST_BYTES + 1) (S.left input.old) (S.left input.new) }
     ensures read { IsErrOf result stops.Read → Rose (S.faults input.old) (S.faults input.new) }
-    ensures unwritten { IsErrOf result stops.Read → Keeps (K.held output.old) (K.held output.new) }
+    ensures seen { IsErrOf result stops.Read → LeavesRead (command_of words.now) [] (S.left input.old) (S.left input.new) (K.held output.old) (K.held output.new) }
     ensures later { K.faults output.old ≤ K.faults output.new }
     ensures write { IsErrOf result stops.Write → Rose (K.faults output.old) (K.faults output.new) }
 {
-    if !is_replay(words) {
-        put(output, b"fault words\n")?;
-        return Ok(2);
+    match command_of(alloc, words)? {
+        None => tell(output, b"fault words\n", 2),
+        Some(command) => obey(alloc, &command, input, output),
     }
-    let mut buffer = new_buffer(alloc)?;
-    replay(alloc, input, output, &mut buffer)
 }
 
 /// Writes a last line, and answers the status, or 4 where it could not be written.
 fn finish<K: Sink>(output: &mut K, text: &[u8], status: u8) -> u8
     requires { status ≡ 4 → ⊥ }
     ensures told { (result ≡ 4 → ⊥) → (result ≡ status) × Appends (K.held output.old) (K.held output.new) text.now }
+    ensures taken { TakesFront (K.held output.old) (K.held output.new) text.now }
     ensures write { result ≡ 4 → Rose (K.faults output.old) (K.faults output.new) }
 {
     match write_all(output, text) {
@@ -61,25 +82,39 @@ fn finish<K: Sink>(output: &mut K, text: &[u8], status: u8) -> u8
 /// Does a command: reads what it reads of `input`, writes its answer to `output`, and gives the
 /// status.
 ///
-/// `replay` reads a script whole and writes the journal of its events in order; where an event does
-/// not happen, `fault line K ..` follows, K being its line. The status is 0 where all happened; 2
-/// for other words (`fault words`) and for a script with a bad line (`fault line K`); 3 only where
-/// the source failed (`fault read`); 4 only where the sink failed; 5 where an event is not allowed;
-/// 6 for more than 67,108,864 bytes (`fault limit bytes`), more than 1,000,000 lines
-/// (`fault limit lines`) and at a limit of the world; 9 where memory ran out (`fault memory`).
+/// - `show` reads the bytes of one connection and tells them as lines (docs/PROTOCOL.md): what the
+///   stream carries, a line for each frame and behind a control frame its message, and last `rest N`
+///   or, with status 1, `fault stream REASON OFFSET`. The lines of a frame are written before the
+///   next piece is read.
+/// - `make` reads such lines, `stream` and `frame` alone, and writes the bytes.
+/// - `check control M` reads a payload in hexadecimal on one line and tells the control message that
+///   it is under the manifest M, or with status 1 `fault control FAULT`.
+/// - `replay` reads a script and writes the journal of its events in order; where an event does not
+///   happen, `fault line K ..` follows, K being its line.
 ///
-/// At most 67,108,865 bytes are read of the source.
+/// The status is 0 where all was done; 1 as said; 2 for other words (`fault words`) and for an input
+/// with a line that tells nothing, is missing or is too many (`fault line K`); 3 only where the
+/// source failed (`fault read`); 4 only where the sink failed; 5 where an event of a script is not
+/// allowed; 6 for more than 67,108,864 bytes (`fault limit bytes`), but for `show` more than
+/// 1,000,000 lines (`fault limit lines`), and at a limit of the world; 9 where memory ran out
+/// (`fault memory`).
 ///
-/// The journal that is written is lawful: at each line, the messages that one incarnation took from
-/// another are a prefix of those that were sent to it before.
-#[tactic(auto, using(crate::proofs::Lawful::lawful_answer))]
+/// Before the fault line of status 3 nothing was written, but by `show` the lines of the whole frames
+/// of what was read; before that of status 9 a part of the answer by whole lines; at status 4 a front
+/// of what would have been left. At most 67,108,865 bytes are read of the source.
+///
+/// The journal that `replay` writes is lawful: at each line, the messages that one incarnation took
+/// from another are a prefix of those that were sent to it before.
+#[tactic(auto, using(crate::proofs::Stopping::told_read, crate::proofs::Stopping::told_part, crate::proofs::Stopping::cut_read, crate::proofs::Stopping::cut_part))]
 pub fn run<S: Source, K: Sink>(alloc: Global, words: &[Text], input: &mut S, output: &mut K) -> u8
     ensures answers { IsDone result → IfSome (S.left input.old) (λ text. Answers (answer words.now text) (K.held output.old) (K.held output.new) result) }
-    ensures lawful { IsDone result → is_replay words.now ≡ true → IfSome (S.left input.old) (λ _. WritesLawfully (K.held output.old) (K.held output.new)) }
+    ensures lawful { IsDone result → is_replay (command_of words.now) ≡ true → IfSome (S.left input.old) (λ text. WritesLawfully text (K.held output.old) (K.held output.new)) }
     ensures bounded { ReadsAtMost (MOST_BYTES + 1) (S.left input.old) (S.left input.new) }
     ensures read { result ≡ 3 → Rose (S.faults input.old) (S.faults input.new) }
-    ensures told { result ≡ 3 → Appends (K.held output.old) (K.held output.new) read_fault }
+    ensures told { result ≡ 3 → LeavesRead (command_of words.now) read_fault (S.left input.old) (S.left input.new) (K.held output.old) (K.held output.new) }
     ensures write { result ≡ 4 → Rose (K.faults output.old) (K.faults output.new) }
+    ensures taken { result ≡ 4 → IfSome (S.left input.old) (λ text. LeavesFront (command_of words.now) text (K.held output.old) (K.held output.new)) }
+    ensures memory { result ≡ 9 → IfSome (S.left input.old) (λ text. LeavesPart (command_of words.now) memory_fault text (K.held output.old) (K.held output.new)) }
 {
     prefix_law();
     match command(alloc, words, input, output) {

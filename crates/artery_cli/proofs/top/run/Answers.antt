@@ -1,16 +1,34 @@
-use Rattle.std.proofs.Common.{ap, arith}
-use Rattle.artery_cli.proofs.Lawful.{lawful_answer, kept_then, rose_later}
-use Rattle.std.specs.Prelude.{Err}
+use Rattle.std.proofs.Common.{arith, ap, subst}
+use Rattle.std.specs.Prelude.{Err, IfSome}
+use Rattle.artery_cli.specs.declared.stop.Stop.{Stop}
+use Rattle.artery_cli.specs.Leaving.{Leaves}
+use Rattle.artery_cli.specs.Command.{command_of}
+use Rattle.artery_cli.proofs.Gathering.{rose_later}
+use Rattle.artery_cli.proofs.Lawful.{lawful_answer}
+use Rattle.artery_cli.proofs.Stopping.{told_read, told_part, cut_read, cut_part}
 use Rattle.artery_cli.proofs.top.run.Goals as goal
 
 pub returns-in-Ok-clause-lawful : goal.returns-in-Ok-clause-lawful
-returns-in-Ok-clause-lawful g c = λ done is. lawful_answer (g.S.Source.left c.args.input.now) (g.K.Sink.held c.args.output.now) (g.K.Sink.held c.command.new.output) c.args.words.now c.in-Ok.status c.prefix_law.ensures is c.in-Ok.ensures.answers
-
-pub returns-in-Err-Read-clause-told : goal.returns-in-Err-Read-clause-told
-returns-in-Err-Read-clause-told g c = λ is. kept_then (g.K.Sink.held c.args.output.now) (g.K.Sink.held c.command.new.output) (g.K.Sink.held c.finish.new.output) _ (c.in-Err-Read.ensures.unwritten (ap Err c.in-Err-Read.field-0-is)) (c.finish.ensures.told (λ four. (let bad : ⊥ = omega (arith, is, four) in bad))).1
+returns-in-Ok-clause-lawful g c = λ done is. lawful_answer (g.S.Source.left c.args.input.now) (g.K.Sink.held c.args.output.now) (g.K.Sink.held c.command.new.output) (command_of c.args.words.now) c.in-Ok.status c.prefix_law.ensures is c.in-Ok.ensures.answers
 
 pub returns-in-Err-Read-clause-write : goal.returns-in-Err-Read-clause-write
 returns-in-Err-Read-clause-write g c = λ is. rose_later _ _ _ c.in-Err-Read.ensures.later (c.finish.ensures.write is)
 
 pub returns-in-Err-NoMemory-clause-write : goal.returns-in-Err-NoMemory-clause-write
 returns-in-Err-NoMemory-clause-write g c = λ is. rose_later _ _ _ c.in-Err-NoMemory.ensures.later (c.finish-in-Err-NoMemory.ensures.write is)
+
+pub returns-in-Err-Read-clause-told : goal.returns-in-Err-Read-clause-told
+returns-in-Err-Read-clause-told g c = λ is. told_read (g.S.Source.left c.args.input.now) (g.S.Source.left c.command.new.input) (g.K.Sink.held c.args.output.now) (g.K.Sink.held c.command.new.output) (g.K.Sink.held c.finish.new.output) (command_of c.args.words.now) (c.in-Err-Read.ensures.seen (ap Err c.in-Err-Read.field-0-is)) (c.finish.ensures.told (λ four. (let bad : ⊥ = omega (arith, is, four) in bad))).1
+
+pub returns-in-Err-Read-clause-taken : goal.returns-in-Err-Read-clause-taken
+returns-in-Err-Read-clause-taken g c = λ is. cut_read (g.S.Source.left c.args.input.now) (g.S.Source.left c.command.new.input) (g.K.Sink.held c.args.output.now) (g.K.Sink.held c.command.new.output) (g.K.Sink.held c.finish.new.output) (command_of c.args.words.now) (c.in-Err-Read.ensures.seen (ap Err c.in-Err-Read.field-0-is)) c.finish.ensures.taken
+
+pub returns-in-Err-NoMemory-clause-memory : goal.returns-in-Err-NoMemory-clause-memory
+returns-in-Err-NoMemory-clause-memory g c = λ is.
+    let P : Stop → Type 0 = λ stop. IfSome (g.S.Source.left c.args.input.now) (λ text. Leaves stop (command_of c.args.words.now) text (g.K.Sink.held c.args.output.now) (g.K.Sink.held c.command.new.output)) in
+    told_part (g.S.Source.left c.args.input.now) (g.K.Sink.held c.args.output.now) (g.K.Sink.held c.command.new.output) (g.K.Sink.held c.finish-in-Err-NoMemory.new.output) (command_of c.args.words.now) (subst P c.in-Err-NoMemory.field-0-is c.in-Err-NoMemory.ensures.left) (c.finish-in-Err-NoMemory.ensures.told (λ four. (let bad : ⊥ = omega (arith, is, four) in bad))).1
+
+pub returns-in-Err-NoMemory-clause-taken : goal.returns-in-Err-NoMemory-clause-taken
+returns-in-Err-NoMemory-clause-taken g c = λ is.
+    let P : Stop → Type 0 = λ stop. IfSome (g.S.Source.left c.args.input.now) (λ text. Leaves stop (command_of c.args.words.now) text (g.K.Sink.held c.args.output.now) (g.K.Sink.held c.command.new.output)) in
+    cut_part (g.S.Source.left c.args.input.now) (g.K.Sink.held c.args.output.now) (g.K.Sink.held c.command.new.output) (g.K.Sink.held c.finish-in-Err-NoMemory.new.output) (command_of c.args.words.now) (subst P c.in-Err-NoMemory.field-0-is c.in-Err-NoMemory.ensures.left) c.finish-in-Err-NoMemory.ensures.taken

@@ -1,0 +1,203 @@
+-- What a command leaves where it stops, as what its parts leave.
+use Rattle.std.proofs.Common.{◌≡◌, ℕ, ◌≤◌, ◌<◌, Bool, true, false, cond, List, [], ◌++◌, length, refl, sym, ◌∙◌, ap, subst, append-nil, inl, inr, arith}
+use Rattle.std.specs.Prelude.{Option, None, Some, IfSome, IfOk, OnOk, Result, Ok, Err, nat_lt, codes}
+use Rattle.std.proofs.lemmas.Bool.Decides.{nat_tests}
+use Rattle.std.specs.Io.KnownBytes.{Appends, Keeps, Consumes}
+use Rattle.artery_base.specs.Written.{TakesFront}
+use Rattle.artery_capture.proofs.Showing.{nothing_told as no_lines}
+use Rattle.artery_cli.specs.declared.command.Command.{Command}
+use Rattle.artery_cli.specs.declared.command.Command.TheVariants.{Show, Whole}
+use Rattle.artery_cli.specs.declared.command.Task.{Task}
+use Rattle.artery_cli.specs.declared.command.Task.TheVariants.{Replay, Make, CheckControl}
+use Rattle.artery_cli.specs.declared.stop.Stop.{Stop}
+use Rattle.artery_cli.specs.declared.stop.Stop.TheVariants as stops
+use Rattle.artery_cli.specs.declared.input.TheConstants.{MOST_BYTES}
+use Rattle.artery_cli.specs.declared.refusal.Refusal.{Refusal}
+use Rattle.artery_cli.specs.declared.refusal.Refusal.TheVariants.{TooManyBytes}
+use Rattle.artery_cli.specs.declared.input.Gathered.TheVariants as Gathered
+use Rattle.artery_cli.specs.declared.input.Gathered.TheVariants.{TooLong}
+use Rattle.artery_cli.specs.Reading.{Gathers}
+use Rattle.artery_cli.specs.Answers.{Answer, Answers, text_answer, task_answer, answer_of, journal_of, journal_of_script, memory_fault, read_fault, stopped, stop_text, script_answer, refusal_answer}
+use Rattle.artery_cli.specs.Leaving.{IsFrontOf, told_of, LeavesRead, IsPart, LeavesPart, LeavesFront, Leaves, WritingStops}
+use Rattle.artery_cli.specs.Playing.{PlayedTo, PlayStops}
+use Rattle.artery_cli.proofs.Sinks.{kept_appends, appends_nothing, appends_more, appends_kept, takes_more, whole_is_front}
+use Rattle.artery_script.specs.declared.script.ScriptFault.{ScriptFault}
+use Rattle.artery_script.specs.declared.script.ScriptLine.{ScriptLine}
+use Rattle.artery_script.specs.Script.{script_of}
+use Rattle.artery_world.specs.declared.fault.WorldFault.{WorldFault}
+use Rattle.artery_world.specs.Replay.{run}
+use Rattle.artery_world.specs.Texts.{journal_text}
+
+nothing_is_front : {X : Type 0} (xs : List X) → IsFrontOf [] xs
+nothing_is_front xs = (xs, refl)
+
+-- what a command has written behind some first bytes is a part of its answer
+pub told_is_part : (c : Option Command) (seen text : List ℕ) → IsFrontOf seen text → IsPart c text (told_of c seen)
+told_is_part None seen text h = refl
+told_is_part (Some Show) seen text h = (seen, h, refl)
+told_is_part (Some (Whole Replay)) seen text h = ([], nothing_is_front (journal_of text), refl)
+told_is_part (Some (Whole Make)) seen text h = refl
+told_is_part (Some (Whole (CheckControl manifest))) seen text h = refl
+
+-- before any byte nothing was told
+nothing_told : (c : Option Command) → told_of c [] ≡ []
+nothing_told None = refl
+nothing_told (Some Show) = no_lines
+nothing_told (Some (Whole task)) = refl
+
+pub nothing_is_part : (c : Option Command) (text : List ℕ) → IsPart c text []
+nothing_is_part c text = subst (IsPart c text) (nothing_told c) (told_is_part c [] text (nothing_is_front text))
+
+-- a command that writes one text alone
+pub writing_stops : (stop : Stop) (c : Option Command) (text : List ℕ) (old new : Option (List ℕ)) → WritingStops stop (answer_of c text).written old new → Leaves stop c text old new
+writing_stops stops.Read c text old new h = tt
+writing_stops stops.Write c text old new h = record { whole = (answer_of c text).written; is_left = inl refl; taken = h }
+writing_stops stops.NoMemory c text old new h = record { part = []; is_part = nothing_is_part c text; written = kept_appends old new h }
+
+-- memory ran out before anything was written
+pub leaves_nothing : (c : Option Command) (text : List ℕ) (held : Option (List ℕ)) → Leaves stops.NoMemory c text held held
+leaves_nothing c text held = writing_stops stops.NoMemory c text held held (keeps held)
+  where
+    keeps : (held : Option (List ℕ)) → Keeps held held
+    keeps None = tt
+    keeps (Some xs) = refl
+
+-- ---- the last line
+
+pub told_read : (left left' old mid new : Option (List ℕ)) (c : Option Command) → LeavesRead c [] left left' old mid → Appends mid new read_fault → LeavesRead c read_fault left left' old new
+told_read left left' old mid new c h k = record {
+  seen = h.seen;
+  consumed = h.consumed;
+  written = subst (λ front. Appends old new (front ++ read_fault)) (append-nil (told_of c h.seen)) (appends_more old mid new (told_of c h.seen ++ []) read_fault h.written k);
+}
+
+pub told_part : (left old mid new : Option (List ℕ)) (c : Option Command) → IfSome left (λ text. Leaves stops.NoMemory c text old mid) → Appends mid new memory_fault
+    → IfSome left (λ text. LeavesPart c memory_fault text old new)
+told_part None old mid new c h k = tt
+told_part (Some text) old mid new c h k = record {
+  part = h.part;
+  is_part = h.is_part;
+  written = subst (λ front. Appends old new (front ++ memory_fault)) (append-nil h.part) (appends_more old mid new (h.part ++ []) memory_fault h.written k);
+}
+
+consumed_front : (text seen : List ℕ) (left : Option (List ℕ)) → Consumes (Some text) left seen → IsFrontOf seen text
+consumed_front text seen None h = absurd h
+consumed_front text seen (Some rest) h = (rest, sym h)
+
+pub cut_read : (left left' old mid new : Option (List ℕ)) (c : Option Command) → LeavesRead c [] left left' old mid → TakesFront mid new read_fault
+    → IfSome left (λ text. LeavesFront c text old new)
+cut_read None left' old mid new c h k = tt
+cut_read (Some text) left' old mid new c h k = record {
+  whole = told_of c h.seen ++ read_fault;
+  is_left = inr (record { part = told_of c h.seen; is_part = told_is_part c h.seen text (consumed_front text h.seen left' h.consumed); last = read_fault; is_last = inr (inl refl); is = refl });
+  taken = subst (λ front. TakesFront old new (front ++ read_fault)) (append-nil (told_of c h.seen)) (takes_more old mid new (told_of c h.seen ++ []) read_fault h.written k);
+}
+
+pub cut_part : (left old mid new : Option (List ℕ)) (c : Option Command) → IfSome left (λ text. Leaves stops.NoMemory c text old mid) → TakesFront mid new memory_fault
+    → IfSome left (λ text. LeavesFront c text old new)
+cut_part None old mid new c h k = tt
+cut_part (Some text) old mid new c h k = record {
+  whole = h.part ++ memory_fault;
+  is_left = inr (record { part = h.part; is_part = h.is_part; last = memory_fault; is_last = inr (inr refl); is = refl });
+  taken = subst (λ front. TakesFront old new (front ++ memory_fault)) (append-nil h.part) (takes_more old mid new (h.part ++ []) memory_fault h.written k);
+}
+
+-- ---- a script
+
+short_test : (n : ℕ) → n ≤ MOST_BYTES → nat_lt MOST_BYTES n ≡ false
+short_test n h = grind (arith, nat_tests, h)
+
+journal_is : (text : List ℕ) (script : List ScriptLine) → length text ≤ MOST_BYTES → script_of text ≡ Ok script → journal_of text ≡ (run script).world.journal
+journal_is text script l e =
+    ap (λ (b : Bool). cond b [] (journal_of_script (script_of text))) (short_test (length text) l)
+    ∙ ap journal_of_script e
+
+-- a script that was played in part
+pub played_part : (text : List ℕ) (script : List ScriptLine) (stop : Stop) (old new : Option (List ℕ)) → length text ≤ MOST_BYTES → script_of text ≡ Ok script → PlayStops stop script old new → Leaves stop (Some (Whole Replay)) text old new
+played_part text script stops.Read old new l e h = tt
+played_part text script stops.NoMemory old new l e h = record {
+  part = journal_text h.lines;
+  is_part = (h.lines, subst (IsFrontOf h.lines) (sym (journal_is text script l e)) h.is_front, refl);
+  written = subst (Appends old new) (sym (append-nil (journal_text h.lines))) h.written;
+}
+played_part text script stops.Write old new l e h = record {
+  whole = journal_text h.lines;
+  is_left = inr (record { part = journal_text h.lines; is_part = (h.lines, subst (IsFrontOf h.lines) (sym (journal_is text script l e)) h.is_front, refl); last = []; is_last = inl refl; is = sym (append-nil (journal_text h.lines)) });
+  taken = h.taken;
+}
+
+-- a script that was played, but whose last line could not be made or written
+pub played_stopped : (text : List ℕ) (script : List ScriptLine) (s : ℕ × WorldFault) (stop : Stop) (old mid new : Option (List ℕ)) → length text ≤ MOST_BYTES → script_of text ≡ Ok script → PlayedTo script (Some s) old mid
+    → WritingStops stop (stop_text s.0 s.1) mid new → Leaves stop (Some (Whole Replay)) text old new
+played_stopped text script s stops.Read old mid new l e p h = tt
+played_stopped text script s stops.NoMemory old mid new l e p h = record {
+  part = journal_text (run script).world.journal;
+  is_part = ((run script).world.journal, subst (IsFrontOf (run script).world.journal) (sym (journal_is text script l e)) (whole_is_front (run script).world.journal), refl);
+  written = subst (Appends old new) (sym (append-nil (journal_text (run script).world.journal))) (appends_kept old mid new (journal_text (run script).world.journal) p.written h);
+}
+played_stopped text script s stops.Write old mid new l e p h = record {
+  whole = journal_text (run script).world.journal ++ stop_text s.0 s.1;
+  is_left = inl (
+      ap (λ (x : Option (ℕ × WorldFault)). (stopped (journal_text (run script).world.journal) x).written) p.is_stop
+      ∙ ap (λ (r : Result (List ScriptLine) ScriptFault). (script_answer r).written) (sym e)
+      ∙ ap (λ (b : Bool). (cond b (refusal_answer TooManyBytes) (script_answer (script_of text))).written) (sym (short_test (length text) l)));
+  taken = takes_more old mid new (journal_text (run script).world.journal) (stop_text s.0 s.1) p.written h;
+}
+
+-- ---- a task
+
+long_test : (n : ℕ) → MOST_BYTES < n → nat_lt MOST_BYTES n ≡ true
+long_test n h = grind (arith, nat_tests, h)
+
+-- the text of a task's answer could not be made or written
+pub text_stops : (stop : Stop) (task : Task) (text : List ℕ) (old new : Option (List ℕ)) → length text ≤ MOST_BYTES → WritingStops stop (text_answer task text).written old new → Leaves stop (Some (Whole task)) text old new
+text_stops stop task text old new l h =
+    let same : text_answer task text ≡ task_answer task text = ap (λ (b : Bool). cond b (refusal_answer TooManyBytes) (text_answer task text)) (sym (short_test (length text) l)) in
+    writing_stops stop (Some (Whole task)) text old new (subst (λ (a : Answer). WritingStops stop a.written old new) same h)
+
+-- the line of a text that is too long could not be made or written
+pub long_stops : (left : Option (List ℕ)) (stop : Stop) (task : Task) (old new : Option (List ℕ)) → IfSome left (λ text. Gathers TooLong text) → WritingStops stop (refusal_answer TooManyBytes).written old new
+    → IfSome left (λ text. Leaves stop (Some (Whole task)) text old new)
+long_stops None stop task old new g h = tt
+long_stops (Some text) stop task old new g h =
+    let same : refusal_answer TooManyBytes ≡ task_answer task text = ap (λ (b : Bool). cond b (refusal_answer TooManyBytes) (text_answer task text)) (sym (long_test (length text) g)) in
+    writing_stops stop (Some (Whole task)) text old new (subst (λ (a : Answer). WritingStops stop a.written old new) same h)
+
+-- what was gathered is the whole text
+pub gathered_stops : (left : Option (List ℕ)) (bytes : List ℕ) (stop : Stop) (task : Task) (old new : Option (List ℕ)) → IfSome left (λ text. Gathers (Gathered.Whole bytes) text) → Leaves stop (Some (Whole task)) bytes old new
+    → IfSome left (λ text. Leaves stop (Some (Whole task)) text old new)
+gathered_stops None bytes stop task old new g h = tt
+gathered_stops (Some text) bytes stop task old new g h = subst (λ xs. Leaves stop (Some (Whole task)) xs old new) g.0 h
+
+-- the source failed before the input was read whole
+pub gathered_read : (left left' held : Option (List ℕ)) (task : Task) → ((seen : List ℕ) × Consumes left left' seen) → LeavesRead (Some (Whole task)) [] left left' held held
+gathered_read left left' held task s = record { seen = s.0; consumed = s.1; written = appends_nothing held }
+
+-- memory ran out before anything was read or written
+pub leaves_nothing_here : (left : Option (List ℕ)) (c : Option Command) (held : Option (List ℕ)) → IfSome left (λ text. Leaves stops.NoMemory c text held held)
+leaves_nothing_here None c held = tt
+leaves_nothing_here (Some text) c held = leaves_nothing c text held
+
+-- the line that tells that the words name no command could not be written
+pub words_stop : (left : Option (List ℕ)) (c : Option Command) (stop : Stop) (old new : Option (List ℕ)) → c ≡ None → WritingStops stop (codes "fault words\n") old new → IfSome left (λ text. Leaves stop c text old new)
+words_stop None c stop old new e h = tt
+words_stop (Some text) c stop old new e h = writing_stops stop c text old new (subst (λ x. WritingStops stop (answer_of x text).written old new) (sym e) h)
+
+-- the line that tells the first fault of a script could not be made or written
+pub refused_script : (text : List ℕ) (stop : Stop) (refusal : Refusal) (fault : ScriptFault) (old new : Option (List ℕ)) → length text ≤ MOST_BYTES → script_of text ≡ Err fault → (script_answer (Err fault)).written ≡ (refusal_answer refusal).written
+    → WritingStops stop (refusal_answer refusal).written old new → Leaves stop (Some (Whole Replay)) text old new
+refused_script text stop refusal fault old new l e s h =
+    let same : (refusal_answer refusal).written ≡ (script_answer (script_of text)).written = sym s ∙ ap (λ (r : Result (List ScriptLine) ScriptFault). (script_answer r).written) (sym e) in
+    text_stops stop Replay text old new l (subst (λ xs. WritingStops stop xs old new) same h)
+
+-- the line that tells that the words name no command was written
+pub words_answer : (left : Option (List ℕ)) (c : Option Command) (r : Result ℕ Stop) (old new : Option (List ℕ)) → c ≡ None → OnOk r (Appends old new (codes "fault words\n")) → IfOk r (λ answer. answer ≡ 2)
+    → IfOk r (λ status. IfSome left (λ text. Answers (answer_of c text) old new status))
+words_answer left c (Err stop) old new e h s = tt
+words_answer None c (Ok status) old new e h s = tt
+words_answer (Some text) c (Ok status) old new e h s = subst (λ x. Answers (answer_of x text) old new status) (sym e) (record { written = h; is_status = s })
+
+-- the last line of a script that was played could not be made or written
+pub played_left : (text : List ℕ) (script : List ScriptLine) (stopped_at : Option (ℕ × WorldFault)) (s : ℕ × WorldFault) (stop : Stop) (old mid new : Option (List ℕ)) → length text ≤ MOST_BYTES → script_of text ≡ Ok script
+    → PlayedTo script stopped_at old mid → stopped_at ≡ Some s → WritingStops stop (stop_text s.0 s.1) mid new → Leaves stop (Some (Whole Replay)) text old new
+played_left text script stopped_at s stop old mid new l e p is h = played_stopped text script s stop old mid new l e (subst (λ x. PlayedTo script x old mid) is p) h
