@@ -14,13 +14,20 @@ for rounds in 20 200; do
         }
     }' > "$work/script"
     /usr/bin/env python3 - "$top/crates/artery/out/artery" "$work/script" "$work/journal" $rounds <<'PY'
-import resource, subprocess, sys, time
+import subprocess, sys, time
 program, script, journal, rounds = sys.argv[1:]
+def begin():
+    return subprocess.Popen([program, "replay"], stdin=open(script), stdout=open(journal, "w"))
 start = time.time()
-with open(script) as source, open(journal, "w") as sink:
-    status = subprocess.run([program, "replay"], stdin=source, stdout=sink).returncode
+status = begin().wait()
 taken = time.time() - start
-most = resource.getrusage(resource.RUSAGE_CHILDREN).ru_maxrss
+child, most = begin(), 0
+while child.poll() is None:
+    try:
+        lines = open(f"/proc/{child.pid}/status").read().splitlines()
+    except (FileNotFoundError, ProcessLookupError):
+        break
+    most = max([most] + [int(line.split()[1]) for line in lines if line.startswith("VmHWM")])
 lines = sum(1 for _ in open(journal))
 print(f"{rounds} rounds: status {status}, {lines} lines, {taken:.2f} s, {most} KiB at most")
 PY

@@ -16,7 +16,7 @@ with open(sys.argv[1], "wb") as out:
     out.write(b"AKKA\x02")
     literals = name(b"") + name(b"akka://B@h2:25520/user/x") + name(b"T")
     for k in range(frames):
-        payload = struct.pack(">Q", k * 2654435761 % 2**64) * 5
+        payload = struct.pack(">Q", k * 2654435761 % 2**64) * 6
         payload = payload[: 100 - 28 - len(literals)]
         header = struct.pack("<BBBBQiIII", 0, 0, 0, 0, 1, 4, 28, 30, 56)
         envelope = header + literals + payload
@@ -26,23 +26,31 @@ PY
 "$top/crates/artery/out/artery" show < "$work/capture" > "$work/shown"
 "$work/plain" < "$work/capture" | cmp - "$work/shown"
 /usr/bin/env python3 - "$top/crates/artery/out/artery" "$work/plain" "$work/capture" <<'PY'
-import os, resource, subprocess, sys, time
+import os, subprocess, sys, time
 program, plain, capture = sys.argv[1:]
+jobs = {"artery": [program, "show"], "C": [plain]}
 size = os.path.getsize(capture) / 1e6
-def once(words):
+def begin(words):
+    source, sink = open(capture, "rb"), open("/dev/null", "wb")
+    return subprocess.Popen(words, stdin=source, stdout=sink)
+def seconds(words):
     start = time.time()
-    with open(capture, "rb") as source, open("/dev/null", "wb") as sink:
-        child = subprocess.Popen(words, stdin=source, stdout=sink)
-        _, status, usage = os.wait4(child.pid, 0)
-    assert status == 0
-    return time.time() - start, usage.ru_maxrss
-best = {}
+    assert begin(words).wait() == 0
+    return time.time() - start
+def most_memory(words):
+    child, most = begin(words), 0
+    while child.poll() is None:
+        try:
+            lines = open(f"/proc/{child.pid}/status").read().splitlines()
+        except (FileNotFoundError, ProcessLookupError):
+            break
+        most = max([most] + [int(line.split()[1]) for line in lines if line.startswith("VmHWM")])
+    return most
+best = {label: 1e9 for label in jobs}
 for _ in range(5):
-    for label, words in (("artery", [program, "show"]), ("C", [plain])):
-        taken, most = once(words)
-        if label not in best or taken < best[label][0]:
-            best[label] = (taken, most)
-for label, (taken, most) in best.items():
-    print(f"{label}: {taken:.3f} s, {size / taken:.0f} MB/s, {most} KiB at most")
-print(f"throughput as a part of C's: {best['C'][0] / best['artery'][0]:.2f}")
+    for label, words in jobs.items():
+        best[label] = min(best[label], seconds(words))
+for label, words in jobs.items():
+    print(f"{label}: {best[label]:.3f} s, {size / best[label]:.0f} MB/s, {most_memory(words)} KiB at most")
+print(f"throughput as a part of C's: {best['C'] / best['artery']:.2f}")
 PY

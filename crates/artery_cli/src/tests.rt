@@ -320,6 +320,34 @@ fn connections_are_shown_and_made(rt: HostRuntime) -> Result<(), Fail> {
     Ok(())
 }
 
+/// A control stream with one frame of 262,144 zero bytes.
+fn longest_frame(alloc: Global) -> Result<Bytes, NoMemory> {
+    let mut bytes = Bytes::from_slice(alloc, b"AKKA\x01\x00\x00\x04\x00")?;
+    for _ in 0..4096 {
+        bytes.extend_from_slice(&[0u8; 64])?;
+    }
+    Ok(bytes)
+}
+
+/// What `show` tells of it: behind the header and three empty literals stand 262,110 bytes of payload.
+fn longest_frame_shown(alloc: Global) -> Result<Bytes, NoMemory> {
+    let mut lines = Bytes::from_slice(alloc, b"stream 1\nframe 0 0 0 0 - - - ")?;
+    for _ in 0..262_110 {
+        lines.extend_from_slice(b"00")?;
+    }
+    lines.extend_from_slice(b"\nrest 0\n")?;
+    Ok(lines)
+}
+
+#[test]
+fn the_longest_frame_is_shown(rt: HostRuntime) -> Result<(), Fail> {
+    let alloc = rt.alloc();
+    let bytes = longest_frame(alloc)?;
+    let shown = longest_frame_shown(alloc)?;
+    assert!(rt; tells(alloc, b"show", bytes.as_slice(), shown.as_slice(), 0)?);
+    Ok(())
+}
+
 #[test]
 fn lines_that_describe_no_connection_are_told(rt: HostRuntime) -> Result<(), Fail> {
     let alloc = rt.alloc();
