@@ -95,13 +95,14 @@ fn finish<K: Sink>(output: &mut K, text: &[u8], status: u8) -> u8
 /// The status is 0 where all was done; 1 as said; 2 for other words (`fault words`) and for an input
 /// with a line that tells nothing, is missing or is too many (`fault line K`); 3 only where the
 /// source failed (`fault read`); 4 only where the sink failed; 5 where an event of a script is not
-/// allowed; 6 for more than 67,108,864 bytes (`fault limit bytes`), but for `show` more than
-/// 1,000,000 lines (`fault limit lines`), and at a limit of the world; 9 where memory ran out
+/// allowed; 6 for more than 67,108,864 bytes (`fault limit bytes`), for more than 1,000,000 lines
+/// (`fault limit lines`; `show` counts none) and at a limit of the world; 9 where memory ran out
 /// (`fault memory`).
 ///
-/// Before the fault line of status 3 nothing was written, but by `show` the lines of the whole frames
-/// of what was read; before that of status 9 a part of the answer by whole lines; at status 4 a front
-/// of what would have been left. At most 67,108,865 bytes are read of the source.
+/// What stands before the last line of status 3: of `show` the lines of the whole frames that were
+/// read, of the others nothing; of status 9: a part of the answer by whole lines. At status 4 the
+/// sink has taken a front of what would have been left. At most 67,108,865 bytes are read of the
+/// source.
 ///
 /// The journal that `replay` writes is lawful: at each line, the messages that one incarnation took
 /// from another are a prefix of those that were sent to it before.
