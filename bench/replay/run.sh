@@ -13,22 +13,7 @@ for rounds in 20 200; do
             print "pass 9"
         }
     }' > "$work/script"
-    /usr/bin/env python3 - "$top/crates/artery/out/artery" "$work/script" "$work/journal" $rounds <<'PY'
-import subprocess, sys, time
-program, script, journal, rounds = sys.argv[1:]
-def begin():
-    return subprocess.Popen([program, "replay"], stdin=open(script), stdout=open(journal, "w"))
-start = time.time()
-status = begin().wait()
-taken = time.time() - start
-child, most = begin(), 0
-while child.poll() is None:
-    try:
-        lines = open(f"/proc/{child.pid}/status").read().splitlines()
-    except (FileNotFoundError, ProcessLookupError):
-        break
-    most = max([most] + [int(line.split()[1]) for line in lines if line.startswith("VmHWM")])
-lines = sum(1 for _ in open(journal))
-print(f"{rounds} rounds: status {status}, {lines} lines, {taken:.2f} s, {most} KiB at most")
-PY
+    lines=$("$top/crates/artery/out/artery" replay < "$work/script" | wc -l)
+    measured=$(python3 "$top/bench/measure.py" 3 "$work/script" "$top/crates/artery/out/artery" replay)
+    echo "$measured" | awk -v rounds=$rounds -v lines=$lines '{ printf "%d rounds: %d lines, %.2f s, %d KiB at most\n", rounds, lines, $1, $2 }'
 done

@@ -25,32 +25,10 @@ with open(sys.argv[1], "wb") as out:
 PY
 "$top/crates/artery/out/artery" show < "$work/capture" > "$work/shown"
 "$work/plain" < "$work/capture" | cmp - "$work/shown"
-/usr/bin/env python3 - "$top/crates/artery/out/artery" "$work/plain" "$work/capture" <<'PY'
-import os, subprocess, sys, time
-program, plain, capture = sys.argv[1:]
-jobs = {"artery": [program, "show"], "C": [plain]}
-size = os.path.getsize(capture) / 1e6
-def begin(words):
-    source, sink = open(capture, "rb"), open("/dev/null", "wb")
-    return subprocess.Popen(words, stdin=source, stdout=sink)
-def seconds(words):
-    start = time.time()
-    assert begin(words).wait() == 0
-    return time.time() - start
-def most_memory(words):
-    child, most = begin(words), 0
-    while child.poll() is None:
-        try:
-            lines = open(f"/proc/{child.pid}/status").read().splitlines()
-        except (FileNotFoundError, ProcessLookupError):
-            break
-        most = max([most] + [int(line.split()[1]) for line in lines if line.startswith("VmHWM")])
-    return most
-best = {label: 1e9 for label in jobs}
-for _ in range(5):
-    for label, words in jobs.items():
-        best[label] = min(best[label], seconds(words))
-for label, words in jobs.items():
-    print(f"{label}: {best[label]:.3f} s, {size / best[label]:.0f} MB/s, {most_memory(words)} KiB at most")
-print(f"throughput as a part of C's: {best['C'] / best['artery']:.2f}")
-PY
+artery=$(python3 "$top/bench/measure.py" 5 "$work/capture" "$top/crates/artery/out/artery" show)
+plain=$(python3 "$top/bench/measure.py" 5 "$work/capture" "$work/plain")
+echo "$(stat -c %s "$work/capture") $artery $plain" | awk '{
+    printf "artery: %.3f s, %.0f MB/s, %d KiB at most\n", $2, $1 / 1e6 / $2, $3
+    printf "C: %.3f s, %.0f MB/s, %d KiB at most\n", $4, $1 / 1e6 / $4, $5
+    printf "throughput as a part of C\047s: %.2f\n", $4 / $2
+}'
