@@ -5,6 +5,7 @@
 
 mod fields;
 mod frames;
+mod laws;
 #[cfg(test)]
 mod tests;
 
@@ -12,3 +13,4 @@ pub use fields::{NEGATIVE_SERIALIZER, VALUES, VALUES_PACKED};
 pub use frames::{
     ACKNOWLEDGEMENT, HANDSHAKE_ANSWER, HANDSHAKE_REQUEST, NUMBERED_MESSAGE, PAYLOAD_AT, SECOND_TELL,
 };
+pub use laws::{fields_are_written, frames_are_framed, second_tell_is_read};
