@@ -2,9 +2,12 @@
 //! standard output.
 #![tactic(auto)]
 
-use artery_base::{Failed, Sink, StdSink, StdSource, Text, TextFault, text_of, write_all};
+mod own;
+
+use artery_base::Text;
 use artery_cli::run;
-use std::alloc::Global;
+use artery_io::{StdSink, StdSource};
+use own::{Own, WordsFault, own_of, tell, word};
 use std::process::ExitCode;
 use std::{env, io};
 
@@ -20,35 +23,16 @@ artery --version                tells the version
 /// The version, for `--version`.
 const VERSION: &[u8] = b"artery 0.1.0\n";
 
-/// Why the words of the command line are no words.
-enum WordsFault {
-    NotAscii,
-    NoMemory,
-}
-
-/// A word of the command line.
-fn word(alloc: Global, text: &str) -> Result<Text, WordsFault> {
-    match text_of(alloc, text.as_bytes()) {
-        Ok(word) => Ok(word),
-        Err(TextFault::NotAscii { .. }) => Err(WordsFault::NotAscii),
-        Err(TextFault::NoMemory) => Err(WordsFault::NoMemory),
-    }
-}
-
-/// Tells a text, and gives the status whether it could be told or not.
-fn tell<K: Sink>(output: &mut K, text: &[u8], status: u8) -> u8 {
-    match write_all(output, text) {
-        Ok(()) => status,
-        Err(Failed) => status,
-    }
-}
-
 /// The words of the command line, without the program's name.
 fn words(rt: &HostRuntime) -> Result<Vec<Text>, WordsFault> {
-    let mut list = Vec::new(rt.alloc());
-    let Ok(arguments) = env::args(rt) else {
-        return Err(WordsFault::NoMemory);
+    let arguments = match env::args(rt) {
+        Ok(arguments) => arguments,
+        Err(fault) if fault.kind() == io::ErrorKind::InvalidData => {
+            return Err(WordsFault::NotAscii);
+        }
+        Err(_) => return Err(WordsFault::NoMemory),
     };
+    let mut list = Vec::new(rt.alloc());
     for argument in arguments.skip(1) {
         let text = word(rt.alloc(), argument.as_str())?;
         if list.push(text).is_err() {
@@ -62,13 +46,16 @@ fn main(rt: HostRuntime) -> io::Result<ExitCode> {
     let mut input = StdSource::new(rt.stdin());
     let mut output = StdSink::new(rt.stdout());
     let status = match words(&rt) {
-        Ok(list) => match list.as_slice() {
-            [first] if first.as_slice() == b"--help".as_slice() => tell(&mut output, USAGE, 0),
-            [first] if first.as_slice() == b"--version".as_slice() => tell(&mut output, VERSION, 0),
-            list => run(rt.alloc(), list, &mut input, &mut output),
-        },
         Err(WordsFault::NotAscii) => tell(&mut output, b"fault words\n", 2),
         Err(WordsFault::NoMemory) => tell(&mut output, b"fault memory\n", 9),
+        Ok(list) => match own_of(&list) {
+            Some(Own::Help) => tell(&mut output, USAGE, 0),
+            Some(Own::Version) => tell(&mut output, VERSION, 0),
+            None => run(rt.alloc(), &list, &mut input, &mut output),
+        },
     };
     Ok(ExitCode::from(status))
 }
+
+#[cfg(test)]
+mod tests;

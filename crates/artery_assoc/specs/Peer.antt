@@ -2,7 +2,7 @@
 use Rattle.std.specs.Prelude.{ℕ, ◌+◌, Bool, false, ◌==◌, nat_le, List, [], ◌∷◌, ◌++◌, length, Option, Some, None, option_to_list, if◌then◌else◌}
 use Rattle.std.specs.List.{list_any}
 use Rattle.artery_base.specs.declared.address.Address.{Address}
-use Rattle.artery_assoc.specs.declared.peer.TheConstants.{MOST_CLOSED}
+use Rattle.artery_assoc.specs.Limits.{most_incarnations}
 use Rattle.artery_assoc.specs.declared.peer.Learn.{Learn}
 use Rattle.artery_assoc.specs.declared.peer.Learn.TheVariants.{Learnt, Same, WasClosed, ClosedFull}
 use Rattle.artery_assoc.specs.declared.peer.Close.{Close}
@@ -33,7 +33,7 @@ is_current uid p = is_that uid p.current
 
 -- No further UID is learnt where the closed ones and the current one together are 1,024.
 abbrev pub is_full : PeerState → Bool
-is_full p = nat_le MOST_CLOSED (length p.closed + length (option_to_list p.current))
+is_full p = nat_le most_incarnations (length p.closed + length (option_to_list p.current))
 
 -- A closed UID is never learnt again; the current one is the same; else it is learnt, if there is room, and the former one is told.
 abbrev pub learning : ℕ → PeerState → Learn

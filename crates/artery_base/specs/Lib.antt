@@ -1,4 +1,2 @@
-pub mod Faults
-pub mod Written
-pub mod Reading
-pub mod Spelling
+pub mod Valid
+pub mod Words

@@ -94,6 +94,19 @@ impl Bytes {
         self.items.truncate(len);
     }
 
+    /// Ends an appending that began where there were `before` bytes, and answers what it answered:
+    /// where it failed, what it had added is taken off again.
+    pub fn settle<E>(&mut self, before: usize, appended: Result<(), E>) -> Result<(), E>
+        ensures answer { result ≡ appended }
+        ensures ok { OnOk result (self.new ≡ self.old) }
+        ensures err { OnErr result (self.new ≡ take before self.old) }
+    {
+        if appended.is_err() {
+            self.truncate(before);
+        }
+        appended
+    }
+
     /// Removes all bytes and keeps their room.
     pub fn clear(&mut self)
         ensures { self.new ≡ [] }

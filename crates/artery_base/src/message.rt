@@ -27,4 +27,16 @@ pub enum Request {
     Pair { address: Address },
     /// Send a system message to the system at the address, in order and once.
     Send { address: Address, message: SysMsg },
+    /// Tell an actor at the address an ordinary message, at most once.
+    Tell { address: Address, message: Tell },
+    /// Let the actor at this path watch another, named by its address and path.
+    Watch { path: Text, watchee: Text },
+    /// End that watch.
+    Unwatch { path: Text, watchee: Text },
+    /// Let an actor live at this path.
+    Spawn { path: Text },
+    /// End the actor at this path, of which its remote watchers are told.
+    Kill { path: Text },
+    /// Close the incarnation at the address: nothing more is exchanged with it.
+    Quarantine { address: Address },
 }

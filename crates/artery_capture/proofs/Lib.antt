@@ -1,7 +1,6 @@
 pub mod Appending
 pub mod Entries
 pub mod Faults
-pub mod Settled
 pub mod Showing
 pub mod Longer
 pub mod Telling

@@ -2,7 +2,7 @@
 use Rattle.std.specs.Prelude.{◌≡◌, ℕ, ◌<◌, List, [], ◌++◌, length, drop, flat_map, Option, Some, None, Result, Ok, Err}
 use Rattle.artery_frame.specs.declared.stream.Stream.{Stream}
 use Rattle.artery_frame.specs.declared.fault.FrameFault.{FrameFault}
-use Rattle.artery_frame.specs.Stream.{reading_of, preamble_of}
+use Rattle.artery_frame.specs.Stream.{reading_of}
 use Rattle.artery_frame.specs.Kept.{Kept, told}
 use Rattle.artery_frame.specs.Standing.{Stands}
 use Rattle.artery_capture.specs.declared.progress.Progress.{Progress}
@@ -12,19 +12,19 @@ use Rattle.artery_capture.specs.Shown.{stream_line, front_lines}
 
 -- a capture keeps what its deframer keeps, and how far it has come
 pub record KeptCapture : Type 0 where
-  pub frames : Kept
+  pub deframer : Kept
   pub progress : Progress
 
 -- While it goes on, the deframer stands for all bytes with all their frames given, and the bytes have no fault. Behind a
 -- fault, it is that of the bytes, and its place was noted. Once memory ran out it stands for no bytes.
 abbrev pub ShowsBy : Progress → Kept → List ℕ → Type 0
-ShowsBy GoingOn frames fed = Stands frames fed (reading_of fed).frames × ((reading_of fed).end ≡ None)
-ShowsBy (Faulty fault) frames fed = ((reading_of fed).end ≡ Some fault) × (frames.place ≡ told (reading_of fed).offset)
-ShowsBy Lost frames fed = ⊥
+ShowsBy GoingOn deframer fed = Stands deframer fed (reading_of fed).frames × ((reading_of fed).end ≡ None)
+ShowsBy (Faulty fault) deframer fed = ((reading_of fed).end ≡ Some fault) × (deframer.place ≡ told (reading_of fed).offset)
+ShowsBy Lost deframer fed = ⊥
 
 -- the capture stands for these bytes, and the lines of all their whole frames were appended
 abbrev pub Shows : KeptCapture → List ℕ → Type 0
-Shows k fed = ShowsBy k.progress k.frames fed
+Shows k fed = ShowsBy k.progress k.deframer fed
 
 -- with the piece, the capture stands for all bytes so far, and their lines are those from before and what was appended
 pub record TellsMore (new : KeptCapture) (fed piece old_out new_out : List ℕ) : Type 0 where
@@ -45,10 +45,6 @@ HoldsLittle Lost held = Unit {0}
 abbrev pub new_stream_line : Option Stream → Option Stream → List ℕ
 new_stream_line None now = stream_line now
 new_stream_line (Some stream) now = []
-
--- no whole preamble is held
-abbrev pub IsSettled : Kept → Type 0
-IsSettled k = (stream : Stream) → k.stream ≡ None → preamble_of k.rest ≡ Ok (Some stream) → ⊥
 
 -- the lines of what comes next: those of a frame
 abbrev pub answer_lines : Result (Option (List ℕ)) FrameFault → List ℕ

@@ -1,7 +1,7 @@
 -- The texts of control messages and of the faults of payloads that are none.
 use Rattle.std.specs.Prelude.{ℕ, List, [], ◌∷◌, ◌++◌, length, codes, decimal, Option, Some, None, Result, Ok, Err}
 use Rattle.artery_base.specs.declared.address.UniqueAddress.{UniqueAddress}
-use Rattle.artery_base.specs.Spelling.{address_text, unique_text, word_text, message_text}
+use Rattle.artery_text.specs.Spelling.{address_text, unique_text, word_text, message_text}
 use Rattle.artery_wire.specs.declared.fault.WireFault.{WireFault}
 use Rattle.artery_wire.specs.declared.fault.WireFault.TheVariants.{Varint, WireType, Truncated, FieldNumber}
 use Rattle.artery_control.specs.declared.control.Control.{Control}

@@ -1,13 +1,13 @@
 -- The lines of a frame: what it carries, or why it is dropped, and behind a control frame its message.
 use Rattle.std.specs.Prelude.{ℕ, ℤ, pos, negsuc, Bool, false, ◌==◌, if◌then◌else◌, List, [], ◌++◌, codes, decimal, Result, Ok, Err}
 use Rattle.std.specs.Fmt.{signed_decimal}
-use Rattle.artery_base.specs.Spelling.{word_text, hex_text}
+use Rattle.artery_text.specs.Spelling.{word_text, hex_text}
 use Rattle.artery_control.specs.Message.{message_of}
 use Rattle.artery_header.specs.declared.envelope.Which.{Which}
 use Rattle.artery_header.specs.declared.envelope.Which.TheVariants.{Sender, Recipient, Manifest}
 use Rattle.artery_header.specs.declared.fault.HeaderFault.{HeaderFault}
 use Rattle.artery_header.specs.declared.fault.HeaderFault.TheVariants.{Short, Version, Metadata, LiteralPast, NotAscii}
-use Rattle.artery_header.specs.Envelope.{Named, Text, Number, Contents, read_of}
+use Rattle.artery_header.specs.Envelope.{NameOf as Named, Literal as Text, Index as Number, EnvelopeOf as Contents, read_of}
 use Rattle.artery_capture.specs.ControlText.{control_line}
 
 -- a name: a word, or `@` and its number in a table

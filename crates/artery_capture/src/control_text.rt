@@ -1,15 +1,13 @@
 ghost use Rattle.std.specs.Prelude.{◌≡◌, [], ◌∷◌, ◌++◌, length, take, codes, decimal, OnOk, OnErr};
-ghost use Rattle.artery_base.specs.Spelling.{address_text, unique_text, word_text, message_text};
+ghost use Rattle.artery_text.specs.Spelling.{address_text, unique_text, word_text, message_text};
 ghost use Rattle.artery_control.specs.declared.control.Control.TheVariants as controls;
 ghost use Rattle.artery_capture.specs.ControlText.{optional_text, version_text, entry_text, entries_text, origin_text, counted_text, table_text, control_text};
 
-use artery_base::{
-    Address, Bytes, Names, NoMemory, SysMsg, Text, UniqueAddress, Values, print_address, print_hex,
-    print_int32, print_number, print_unique, print_word,
-};
+use artery_base::{Address, Bytes, Names, NoMemory, SysMsg, Text, UniqueAddress, Values};
 use artery_control::Control;
+use artery_text::{print_address, print_message, print_number, print_unique, print_word};
 
-#[tactic(auto, using(artery_base::proofs::Appending::keeps_front))]
+#[tactic(auto, using(crate::proofs::Appending::keeps_front, crate::proofs::Appending::keeps_on))]
 fn put_optional(number: Option<u64>, out: &mut Bytes) -> Result<(), NoMemory>
     ensures ok { OnOk result (out.new ≡ out.old ++ optional_text number) }
     ensures err { OnErr result (out.new ≡ out.old) }
@@ -20,7 +18,7 @@ fn put_optional(number: Option<u64>, out: &mut Bytes) -> Result<(), NoMemory>
     }
 }
 
-#[tactic(auto, using(artery_base::proofs::Appending::keeps_front))]
+#[tactic(auto, using(crate::proofs::Appending::keeps_front, crate::proofs::Appending::keeps_on))]
 fn put_version(version: u8, sequence: Option<u64>, out: &mut Bytes) -> Result<(), NoMemory>
     ensures ok { OnOk result (out.new ≡ out.old ++ version_text version sequence) }
     ensures kept { take (length out.old) out.new ≡ out.old }
@@ -33,19 +31,7 @@ fn put_version(version: u8, sequence: Option<u64>, out: &mut Bytes) -> Result<()
     print_number(sequence, out)
 }
 
-fn print_version(version: u8, sequence: Option<u64>, out: &mut Bytes) -> Result<(), NoMemory>
-    ensures ok { OnOk result (out.new ≡ out.old ++ version_text version sequence) }
-    ensures err { OnErr result (out.new ≡ out.old) }
-{
-    let before = out.len();
-    if let Err(fault) = put_version(version, sequence, out) {
-        out.truncate(before);
-        return Err(fault);
-    }
-    Ok(())
-}
-
-#[tactic(auto, using(artery_base::proofs::Appending::keeps_front))]
+#[tactic(auto, using(crate::proofs::Appending::keeps_front, crate::proofs::Appending::keeps_on))]
 fn put_terminating(from: &UniqueAddress, out: &mut Bytes) -> Result<(), NoMemory>
     ensures ok { OnOk result (out.new ≡ out.old ++ control_text (controls.Terminating from.now)) }
     ensures kept { take (length out.old) out.new ≡ out.old }
@@ -54,7 +40,7 @@ fn put_terminating(from: &UniqueAddress, out: &mut Bytes) -> Result<(), NoMemory
     print_unique(from, out)
 }
 
-#[tactic(auto, using(artery_base::proofs::Appending::keeps_front))]
+#[tactic(auto, using(crate::proofs::Appending::keeps_front, crate::proofs::Appending::keeps_on))]
 fn put_terminating_ack(from: &UniqueAddress, out: &mut Bytes) -> Result<(), NoMemory>
     ensures ok { OnOk result (out.new ≡ out.old ++ control_text (controls.TerminatingAck from.now)) }
     ensures kept { take (length out.old) out.new ≡ out.old }
@@ -63,7 +49,7 @@ fn put_terminating_ack(from: &UniqueAddress, out: &mut Bytes) -> Result<(), NoMe
     print_unique(from, out)
 }
 
-#[tactic(auto, using(artery_base::proofs::Appending::keeps_front))]
+#[tactic(auto, using(crate::proofs::Appending::keeps_front, crate::proofs::Appending::keeps_on))]
 fn put_ack(n: u64, from: &UniqueAddress, out: &mut Bytes) -> Result<(), NoMemory>
     ensures ok { OnOk result (out.new ≡ out.old ++ control_text (controls.Ack n from.now)) }
     ensures kept { take (length out.old) out.new ≡ out.old }
@@ -74,7 +60,7 @@ fn put_ack(n: u64, from: &UniqueAddress, out: &mut Bytes) -> Result<(), NoMemory
     print_unique(from, out)
 }
 
-#[tactic(auto, using(artery_base::proofs::Appending::keeps_front))]
+#[tactic(auto, using(crate::proofs::Appending::keeps_front, crate::proofs::Appending::keeps_on))]
 fn put_nack(n: u64, from: &UniqueAddress, out: &mut Bytes) -> Result<(), NoMemory>
     ensures ok { OnOk result (out.new ≡ out.old ++ control_text (controls.Nack n from.now)) }
     ensures kept { take (length out.old) out.new ≡ out.old }
@@ -85,7 +71,7 @@ fn put_nack(n: u64, from: &UniqueAddress, out: &mut Bytes) -> Result<(), NoMemor
     print_unique(from, out)
 }
 
-#[tactic(auto, using(artery_base::proofs::Appending::keeps_front))]
+#[tactic(auto, using(crate::proofs::Appending::keeps_front, crate::proofs::Appending::keeps_on))]
 fn put_quarantined_fields(
     from: &UniqueAddress,
     to: &UniqueAddress,
@@ -99,23 +85,7 @@ fn put_quarantined_fields(
     print_unique(to, out)
 }
 
-fn print_quarantined_fields(
-    from: &UniqueAddress,
-    to: &UniqueAddress,
-    out: &mut Bytes,
-) -> Result<(), NoMemory>
-    ensures ok { OnOk result (out.new ≡ out.old ++ (unique_text from.now ++ codes " " ++ unique_text to.now)) }
-    ensures err { OnErr result (out.new ≡ out.old) }
-{
-    let before = out.len();
-    if let Err(fault) = put_quarantined_fields(from, to, out) {
-        out.truncate(before);
-        return Err(fault);
-    }
-    Ok(())
-}
-
-#[tactic(auto, using(artery_base::proofs::Appending::keeps_front))]
+#[tactic(auto, using(crate::proofs::Appending::keeps_front, crate::proofs::Appending::keeps_on))]
 fn put_quarantined(
     from: &UniqueAddress,
     to: &UniqueAddress,
@@ -125,10 +95,10 @@ fn put_quarantined(
     ensures kept { take (length out.old) out.new ≡ out.old }
 {
     out.extend_from_slice(b"quarantined ")?;
-    print_quarantined_fields(from, to, out)
+    put_quarantined_fields(from, to, out)
 }
 
-#[tactic(auto, using(artery_base::proofs::Appending::keeps_front))]
+#[tactic(auto, using(crate::proofs::Appending::keeps_front, crate::proofs::Appending::keeps_on))]
 fn put_request_fields(
     from: &UniqueAddress,
     to: &Address,
@@ -145,24 +115,7 @@ fn put_request_fields(
     put_optional(nonce, out)
 }
 
-fn print_request_fields(
-    from: &UniqueAddress,
-    to: &Address,
-    nonce: Option<u64>,
-    out: &mut Bytes,
-) -> Result<(), NoMemory>
-    ensures ok { OnOk result (out.new ≡ out.old ++ (unique_text from.now ++ codes " " ++ address_text to.now ++ codes " " ++ optional_text nonce)) }
-    ensures err { OnErr result (out.new ≡ out.old) }
-{
-    let before = out.len();
-    if let Err(fault) = put_request_fields(from, to, nonce, out) {
-        out.truncate(before);
-        return Err(fault);
-    }
-    Ok(())
-}
-
-#[tactic(auto, using(artery_base::proofs::Appending::keeps_front))]
+#[tactic(auto, using(crate::proofs::Appending::keeps_front, crate::proofs::Appending::keeps_on))]
 fn put_request(
     from: &UniqueAddress,
     to: &Address,
@@ -173,10 +126,10 @@ fn put_request(
     ensures kept { take (length out.old) out.new ≡ out.old }
 {
     out.extend_from_slice(b"handshake-req ")?;
-    print_request_fields(from, to, nonce, out)
+    put_request_fields(from, to, nonce, out)
 }
 
-#[tactic(auto, using(artery_base::proofs::Appending::keeps_front))]
+#[tactic(auto, using(crate::proofs::Appending::keeps_front, crate::proofs::Appending::keeps_on))]
 fn put_answer_fields(
     from: &UniqueAddress,
     for_uid: Option<u64>,
@@ -193,24 +146,7 @@ fn put_answer_fields(
     put_optional(nonce, out)
 }
 
-fn print_answer_fields(
-    from: &UniqueAddress,
-    for_uid: Option<u64>,
-    nonce: Option<u64>,
-    out: &mut Bytes,
-) -> Result<(), NoMemory>
-    ensures ok { OnOk result (out.new ≡ out.old ++ (unique_text from.now ++ codes " " ++ optional_text for_uid ++ codes " " ++ optional_text nonce)) }
-    ensures err { OnErr result (out.new ≡ out.old) }
-{
-    let before = out.len();
-    if let Err(fault) = put_answer_fields(from, for_uid, nonce, out) {
-        out.truncate(before);
-        return Err(fault);
-    }
-    Ok(())
-}
-
-#[tactic(auto, using(artery_base::proofs::Appending::keeps_front))]
+#[tactic(auto, using(crate::proofs::Appending::keeps_front, crate::proofs::Appending::keeps_on))]
 fn put_answer(
     from: &UniqueAddress,
     for_uid: Option<u64>,
@@ -221,11 +157,11 @@ fn put_answer(
     ensures kept { take (length out.old) out.new ≡ out.old }
 {
     out.extend_from_slice(b"handshake-rsp ")?;
-    print_answer_fields(from, for_uid, nonce, out)
+    put_answer_fields(from, for_uid, nonce, out)
 }
 
 // Who has adopted a table, and its version.
-#[tactic(auto, using(artery_base::proofs::Appending::keeps_front))]
+#[tactic(auto, using(crate::proofs::Appending::keeps_front, crate::proofs::Appending::keeps_on))]
 fn put_adopted(
     from: &UniqueAddress,
     version: u8,
@@ -237,27 +173,10 @@ fn put_adopted(
 {
     print_unique(from, out)?;
     out.push(b' ')?;
-    print_version(version, sequence, out)
+    put_version(version, sequence, out)
 }
 
-fn print_adopted(
-    from: &UniqueAddress,
-    version: u8,
-    sequence: Option<u64>,
-    out: &mut Bytes,
-) -> Result<(), NoMemory>
-    ensures ok { OnOk result (out.new ≡ out.old ++ (unique_text from.now ++ codes " " ++ version_text version sequence)) }
-    ensures err { OnErr result (out.new ≡ out.old) }
-{
-    let before = out.len();
-    if let Err(fault) = put_adopted(from, version, sequence, out) {
-        out.truncate(before);
-        return Err(fault);
-    }
-    Ok(())
-}
-
-#[tactic(auto, using(artery_base::proofs::Appending::keeps_front))]
+#[tactic(auto, using(crate::proofs::Appending::keeps_front, crate::proofs::Appending::keeps_on))]
 fn put_refs_ack(
     from: &UniqueAddress,
     version: u8,
@@ -268,10 +187,10 @@ fn put_refs_ack(
     ensures kept { take (length out.old) out.new ≡ out.old }
 {
     out.extend_from_slice(b"refs-ack ")?;
-    print_adopted(from, version, sequence, out)
+    put_adopted(from, version, sequence, out)
 }
 
-#[tactic(auto, using(artery_base::proofs::Appending::keeps_front))]
+#[tactic(auto, using(crate::proofs::Appending::keeps_front, crate::proofs::Appending::keeps_on))]
 fn put_manifests_ack(
     from: &UniqueAddress,
     version: u8,
@@ -282,10 +201,10 @@ fn put_manifests_ack(
     ensures kept { take (length out.old) out.new ≡ out.old }
 {
     out.extend_from_slice(b"manifests-ack ")?;
-    print_adopted(from, version, sequence, out)
+    put_adopted(from, version, sequence, out)
 }
 
-#[tactic(auto, using(artery_base::proofs::Appending::keeps_front))]
+#[tactic(auto, using(crate::proofs::Appending::keeps_front, crate::proofs::Appending::keeps_on))]
 fn put_entry(key: &Text, value: u16, out: &mut Bytes) -> Result<(), NoMemory>
     ensures ok { OnOk result (out.new ≡ out.old ++ entry_text key.now value) }
     ensures kept { take (length out.old) out.new ≡ out.old }
@@ -296,7 +215,7 @@ fn put_entry(key: &Text, value: u16, out: &mut Bytes) -> Result<(), NoMemory>
     print_number(u64::from(value), out)
 }
 
-#[tactic(auto, using(artery_base::proofs::Appending::keeps_front, crate::proofs::Appending::keeps_through, crate::proofs::Entries::entry_on, crate::proofs::Entries::keys_end, crate::proofs::Entries::values_end))]
+#[tactic(auto, using(crate::proofs::Appending::keeps_front, crate::proofs::Appending::keeps_through, crate::proofs::Entries::entry_on, crate::proofs::Entries::keys_end, crate::proofs::Entries::values_end))]
 fn put_entries(keys: &[Text], values: &[u16], out: &mut Bytes) -> Result<(), NoMemory>
     ensures ok { OnOk result (out.new ≡ out.old ++ entries_text keys.now values.now) }
     ensures kept { take (length out.old) out.new ≡ out.old }
@@ -309,20 +228,8 @@ fn put_entries(keys: &[Text], values: &[u16], out: &mut Bytes) -> Result<(), NoM
     Ok(())
 }
 
-fn print_entries(keys: &[Text], values: &[u16], out: &mut Bytes) -> Result<(), NoMemory>
-    ensures ok { OnOk result (out.new ≡ out.old ++ entries_text keys.now values.now) }
-    ensures err { OnErr result (out.new ≡ out.old) }
-{
-    let before = out.len();
-    if let Err(fault) = put_entries(keys, values, out) {
-        out.truncate(before);
-        return Err(fault);
-    }
-    Ok(())
-}
-
 // Who sent a table, and for whom.
-#[tactic(auto, using(artery_base::proofs::Appending::keeps_front))]
+#[tactic(auto, using(crate::proofs::Appending::keeps_front, crate::proofs::Appending::keeps_on))]
 fn put_table_origin(from: &UniqueAddress, origin_uid: u64, out: &mut Bytes) -> Result<(), NoMemory>
     ensures ok { OnOk result (out.new ≡ out.old ++ origin_text from.now origin_uid) }
     ensures kept { take (length out.old) out.new ≡ out.old }
@@ -333,46 +240,18 @@ fn put_table_origin(from: &UniqueAddress, origin_uid: u64, out: &mut Bytes) -> R
     out.push(b' ')
 }
 
-fn print_table_origin(
-    from: &UniqueAddress,
-    origin_uid: u64,
-    out: &mut Bytes,
-) -> Result<(), NoMemory>
-    ensures ok { OnOk result (out.new ≡ out.old ++ origin_text from.now origin_uid) }
-    ensures err { OnErr result (out.new ≡ out.old) }
-{
-    let before = out.len();
-    if let Err(fault) = put_table_origin(from, origin_uid, out) {
-        out.truncate(before);
-        return Err(fault);
-    }
-    Ok(())
-}
-
 // How many entries a table has, and each.
-#[tactic(auto, using(artery_base::proofs::Appending::keeps_front))]
+#[tactic(auto, using(crate::proofs::Appending::keeps_front, crate::proofs::Appending::keeps_on))]
 fn put_table_entries(keys: &Names, values: &Values, out: &mut Bytes) -> Result<(), NoMemory>
     ensures ok { OnOk result (out.new ≡ out.old ++ counted_text keys.now values.now) }
     ensures kept { take (length out.old) out.new ≡ out.old }
 {
     out.push(b' ')?;
     print_number(keys.len() as u64, out)?;
-    print_entries(keys.as_slice(), values.as_slice(), out)
+    put_entries(keys.as_slice(), values.as_slice(), out)
 }
 
-fn print_table_entries(keys: &Names, values: &Values, out: &mut Bytes) -> Result<(), NoMemory>
-    ensures ok { OnOk result (out.new ≡ out.old ++ counted_text keys.now values.now) }
-    ensures err { OnErr result (out.new ≡ out.old) }
-{
-    let before = out.len();
-    if let Err(fault) = put_table_entries(keys, values, out) {
-        out.truncate(before);
-        return Err(fault);
-    }
-    Ok(())
-}
-
-#[tactic(auto, using(artery_base::proofs::Appending::keeps_front))]
+#[tactic(auto, using(crate::proofs::Appending::keeps_front, crate::proofs::Appending::keeps_on))]
 fn put_table(
     from: &UniqueAddress,
     origin_uid: u64,
@@ -385,32 +264,12 @@ fn put_table(
     ensures ok { OnOk result (out.new ≡ out.old ++ table_text from.now origin_uid (version_text version sequence) keys.now values.now) }
     ensures kept { take (length out.old) out.new ≡ out.old }
 {
-    print_table_origin(from, origin_uid, out)?;
-    print_version(version, sequence, out)?;
-    print_table_entries(keys, values, out)
+    put_table_origin(from, origin_uid, out)?;
+    put_version(version, sequence, out)?;
+    put_table_entries(keys, values, out)
 }
 
-fn print_table(
-    from: &UniqueAddress,
-    origin_uid: u64,
-    version: u8,
-    sequence: Option<u64>,
-    keys: &Names,
-    values: &Values,
-    out: &mut Bytes,
-) -> Result<(), NoMemory>
-    ensures ok { OnOk result (out.new ≡ out.old ++ table_text from.now origin_uid (version_text version sequence) keys.now values.now) }
-    ensures err { OnErr result (out.new ≡ out.old) }
-{
-    let before = out.len();
-    if let Err(fault) = put_table(from, origin_uid, version, sequence, keys, values, out) {
-        out.truncate(before);
-        return Err(fault);
-    }
-    Ok(())
-}
-
-#[tactic(auto, using(artery_base::proofs::Appending::keeps_front))]
+#[tactic(auto, using(crate::proofs::Appending::keeps_front, crate::proofs::Appending::keeps_on))]
 fn put_refs_table(
     from: &UniqueAddress,
     origin_uid: u64,
@@ -424,10 +283,10 @@ fn put_refs_table(
     ensures kept { take (length out.old) out.new ≡ out.old }
 {
     out.extend_from_slice(b"refs-table ")?;
-    print_table(from, origin_uid, version, sequence, keys, values, out)
+    put_table(from, origin_uid, version, sequence, keys, values, out)
 }
 
-#[tactic(auto, using(artery_base::proofs::Appending::keeps_front))]
+#[tactic(auto, using(crate::proofs::Appending::keeps_front, crate::proofs::Appending::keeps_on))]
 fn put_manifests_table(
     from: &UniqueAddress,
     origin_uid: u64,
@@ -441,34 +300,10 @@ fn put_manifests_table(
     ensures kept { take (length out.old) out.new ≡ out.old }
 {
     out.extend_from_slice(b"manifests-table ")?;
-    print_table(from, origin_uid, version, sequence, keys, values, out)
+    put_table(from, origin_uid, version, sequence, keys, values, out)
 }
 
-#[tactic(auto, using(artery_base::proofs::Appending::keeps_front))]
-fn put_message(message: &SysMsg, out: &mut Bytes) -> Result<(), NoMemory>
-    ensures ok { OnOk result (out.new ≡ out.old ++ message_text message.now) }
-    ensures kept { take (length out.old) out.new ≡ out.old }
-{
-    print_int32(message.serializer, out)?;
-    out.push(b' ')?;
-    print_word(message.manifest.as_slice(), out)?;
-    out.push(b' ')?;
-    print_hex(message.payload.as_slice(), out)
-}
-
-fn print_message(message: &SysMsg, out: &mut Bytes) -> Result<(), NoMemory>
-    ensures ok { OnOk result (out.new ≡ out.old ++ message_text message.now) }
-    ensures err { OnErr result (out.new ≡ out.old) }
-{
-    let before = out.len();
-    if let Err(fault) = put_message(message, out) {
-        out.truncate(before);
-        return Err(fault);
-    }
-    Ok(())
-}
-
-#[tactic(auto, using(artery_base::proofs::Appending::keeps_front))]
+#[tactic(auto, using(crate::proofs::Appending::keeps_front, crate::proofs::Appending::keeps_on))]
 fn put_numbered_fields(
     n: u64,
     message: &SysMsg,
@@ -485,24 +320,7 @@ fn put_numbered_fields(
     print_unique(reply_to, out)
 }
 
-fn print_numbered_fields(
-    n: u64,
-    message: &SysMsg,
-    reply_to: &UniqueAddress,
-    out: &mut Bytes,
-) -> Result<(), NoMemory>
-    ensures ok { OnOk result (out.new ≡ out.old ++ (decimal n ++ codes " " ++ message_text message.now ++ codes " " ++ unique_text reply_to.now)) }
-    ensures err { OnErr result (out.new ≡ out.old) }
-{
-    let before = out.len();
-    if let Err(fault) = put_numbered_fields(n, message, reply_to, out) {
-        out.truncate(before);
-        return Err(fault);
-    }
-    Ok(())
-}
-
-#[tactic(auto, using(artery_base::proofs::Appending::keeps_front))]
+#[tactic(auto, using(crate::proofs::Appending::keeps_front, crate::proofs::Appending::keeps_on))]
 fn put_numbered(
     n: u64,
     message: &SysMsg,
@@ -513,10 +331,10 @@ fn put_numbered(
     ensures kept { take (length out.old) out.new ≡ out.old }
 {
     out.extend_from_slice(b"numbered ")?;
-    print_numbered_fields(n, message, reply_to, out)
+    put_numbered_fields(n, message, reply_to, out)
 }
 
-#[tactic(auto, using(artery_base::proofs::Appending::keeps_front))]
+#[tactic(auto, using(crate::proofs::Appending::keeps_front, crate::proofs::Appending::keeps_on))]
 fn put_heartbeat_answer(uid: u64, out: &mut Bytes) -> Result<(), NoMemory>
     ensures ok { OnOk result (out.new ≡ out.old ++ control_text (controls.HeartbeatRsp uid)) }
     ensures kept { take (length out.old) out.new ≡ out.old }
@@ -525,7 +343,7 @@ fn put_heartbeat_answer(uid: u64, out: &mut Bytes) -> Result<(), NoMemory>
     print_number(uid, out)
 }
 
-#[tactic(auto, using(artery_base::proofs::Appending::keeps_front))]
+#[tactic(auto, using(crate::proofs::Appending::keeps_front, crate::proofs::Appending::keeps_on))]
 fn put_control(control: &Control, out: &mut Bytes) -> Result<(), NoMemory>
     ensures ok { OnOk result (out.new ≡ out.old ++ control_text control.now) }
     ensures kept { take (length out.old) out.new ≡ out.old }
@@ -585,9 +403,6 @@ pub fn print_control(control: &Control, out: &mut Bytes) -> Result<(), NoMemory>
     ensures err { OnErr result (out.new ≡ out.old) }
 {
     let before = out.len();
-    if let Err(fault) = put_control(control, out) {
-        out.truncate(before);
-        return Err(fault);
-    }
-    Ok(())
+    let appended = put_control(control, out);
+    out.settle(before, appended)
 }

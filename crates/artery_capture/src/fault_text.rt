@@ -2,12 +2,13 @@ ghost use Rattle.std.specs.Prelude.{◌≡◌, [], ◌∷◌, ◌++◌, length, 
 ghost use Rattle.artery_control.specs.declared.fault.ControlFault.TheVariants as faults;
 ghost use Rattle.artery_capture.specs.ControlText.{path_text, wire_fault_text, fault_text};
 
-use artery_base::{Bytes, NoMemory, print_number};
+use artery_base::{Bytes, NoMemory};
 use artery_control::{ControlFault, Path};
+use artery_text::print_number;
 use artery_wire::WireFault;
 
 // Numbers of fields, joined by dots.
-#[tactic(auto, using(artery_base::proofs::Appending::keeps_front))]
+#[tactic(auto, using(crate::proofs::Appending::keeps_front, crate::proofs::Appending::keeps_on))]
 fn put_two(outer: u8, inner: u8, out: &mut Bytes) -> Result<(), NoMemory>
     ensures ok { OnOk result (out.new ≡ out.old ++ decimal outer ++ codes "." ++ decimal inner) }
     ensures kept { take (length out.old) out.new ≡ out.old }
@@ -17,7 +18,7 @@ fn put_two(outer: u8, inner: u8, out: &mut Bytes) -> Result<(), NoMemory>
     print_number(u64::from(inner), out)
 }
 
-#[tactic(auto, using(artery_base::proofs::Appending::keeps_front, artery_base::proofs::Appending::keeps_on))]
+#[tactic(auto, using(crate::proofs::Appending::keeps_front, crate::proofs::Appending::keeps_on))]
 fn put_path(path: Path, out: &mut Bytes) -> Result<(), NoMemory>
     ensures ok { OnOk result (out.new ≡ out.old ++ path_text path) }
     ensures kept { take (length out.old) out.new ≡ out.old }
@@ -35,7 +36,7 @@ fn put_path(path: Path, out: &mut Bytes) -> Result<(), NoMemory>
 }
 
 // A word and a number.
-#[tactic(auto, using(artery_base::proofs::Appending::keeps_front))]
+#[tactic(auto, using(crate::proofs::Appending::keeps_front, crate::proofs::Appending::keeps_on))]
 fn put_at(word: &[u8], at: usize, out: &mut Bytes) -> Result<(), NoMemory>
     ensures ok { OnOk result (out.new ≡ out.old ++ word.now ++ decimal at) }
     ensures kept { take (length out.old) out.new ≡ out.old }
@@ -57,7 +58,7 @@ fn put_wire_fault(fault: WireFault, out: &mut Bytes) -> Result<(), NoMemory>
 }
 
 // A word and a path.
-#[tactic(auto, using(artery_base::proofs::Appending::keeps_front, artery_base::proofs::Appending::keeps_on))]
+#[tactic(auto, using(crate::proofs::Appending::keeps_front, crate::proofs::Appending::keeps_on))]
 fn put_word_path(word: &[u8], path: Path, out: &mut Bytes) -> Result<(), NoMemory>
     ensures ok { OnOk result (out.new ≡ out.old ++ word.now ++ path_text path) }
     ensures kept { take (length out.old) out.new ≡ out.old }
@@ -66,7 +67,7 @@ fn put_word_path(word: &[u8], path: Path, out: &mut Bytes) -> Result<(), NoMemor
     put_path(path, out)
 }
 
-#[tactic(auto, using(artery_base::proofs::Appending::keeps_front, artery_base::proofs::Appending::keeps_on))]
+#[tactic(auto, using(crate::proofs::Appending::keeps_front, crate::proofs::Appending::keeps_on))]
 fn put_wire(path: Path, fault: WireFault, out: &mut Bytes) -> Result<(), NoMemory>
     ensures ok { OnOk result (out.new ≡ out.old ++ wire_fault_text fault ++ codes " " ++ path_text path) }
     ensures kept { take (length out.old) out.new ≡ out.old }
@@ -76,7 +77,7 @@ fn put_wire(path: Path, fault: WireFault, out: &mut Bytes) -> Result<(), NoMemor
     put_path(path, out)
 }
 
-#[tactic(auto, using(artery_base::proofs::Appending::keeps_front))]
+#[tactic(auto, using(crate::proofs::Appending::keeps_front, crate::proofs::Appending::keeps_on))]
 fn put_unequal(keys: usize, values: usize, out: &mut Bytes) -> Result<(), NoMemory>
     ensures ok { OnOk result (out.new ≡ out.old ++ codes "unequal " ++ decimal keys ++ codes " " ++ decimal values) }
     ensures kept { take (length out.old) out.new ≡ out.old }
@@ -87,7 +88,7 @@ fn put_unequal(keys: usize, values: usize, out: &mut Bytes) -> Result<(), NoMemo
     print_number(values as u64, out)
 }
 
-#[tactic(auto, using(artery_base::proofs::Appending::keeps_front))]
+#[tactic(auto, using(crate::proofs::Appending::keeps_front, crate::proofs::Appending::keeps_on))]
 fn put_fault(fault: ControlFault, out: &mut Bytes) -> Result<(), NoMemory>
     ensures ok { OnOk result (out.new ≡ out.old ++ fault_text fault) }
     ensures kept { take (length out.old) out.new ≡ out.old }
@@ -110,9 +111,6 @@ pub fn print_control_fault(fault: ControlFault, out: &mut Bytes) -> Result<(), N
     ensures err { OnErr result (out.new ≡ out.old) }
 {
     let before = out.len();
-    if let Err(fault) = put_fault(fault, out) {
-        out.truncate(before);
-        return Err(fault);
-    }
-    Ok(())
+    let appended = put_fault(fault, out);
+    out.settle(before, appended)
 }

@@ -1,17 +1,18 @@
 ghost use Rattle.std.specs.Prelude.{◌≡◌, ℤ, [], ◌∷◌, ◌++◌, length, take, codes, decimal, OnOk, OnErr, Ok, Err};
 ghost use Rattle.std.specs.Fmt.{signed_decimal};
-ghost use Rattle.artery_base.specs.Spelling.{word_text, hex_text};
+ghost use Rattle.artery_text.specs.Spelling.{word_text, hex_text};
 ghost use Rattle.artery_control.specs.Message.{message_of};
 ghost use Rattle.artery_header.specs.declared.fault.HeaderFault.TheVariants.{LiteralPast, NotAscii};
-ghost use Rattle.artery_header.specs.Envelope.{Contents, Number, named, contents, read_of};
+ghost use Rattle.artery_header.specs.Envelope.{EnvelopeOf as Contents, Index as Number, name_of as named, envelope_of as contents, read_of};
 ghost use Rattle.artery_capture.specs.ControlText.{control_text, fault_text, control_line};
 ghost use Rattle.artery_capture.specs.FrameText.{name_text, numbers_text, names_text, contents_text, frame_line, which_word, header_fault_text, drop_line, is_control_serializer, literal_lines, message_lines, frame_lines};
 
 use crate::control_text::print_control;
 use crate::fault_text::print_control_fault;
-use artery_base::{Bytes, NoMemory, print_hex, print_int32, print_number, print_word};
+use artery_base::{Bytes, NoMemory};
 use artery_control::{Control, ControlFault, read_control};
 use artery_header::{Envelope, HeaderFault, Name, Which, read_envelope};
+use artery_text::{print_hex, print_int32, print_number, print_word};
 use std::alloc::Global;
 
 /// The serializer of control messages.
@@ -40,7 +41,7 @@ fn put_name(name: &Name<'_>, out: &mut Bytes) -> Result<(), NoMemory>
     }
 }
 
-#[tactic(auto, using(artery_base::proofs::Appending::keeps_front))]
+#[tactic(auto, using(crate::proofs::Appending::keeps_front, crate::proofs::Appending::keeps_on))]
 fn put_numbers(envelope: &Envelope<'_>, out: &mut Bytes) -> Result<(), NoMemory>
     ensures ok { OnOk result (out.new ≡ out.old ++ numbers_text (contents envelope.now)) }
     ensures kept { take (length out.old) out.new ≡ out.old }
@@ -54,19 +55,7 @@ fn put_numbers(envelope: &Envelope<'_>, out: &mut Bytes) -> Result<(), NoMemory>
     print_int32(envelope.serializer, out)
 }
 
-fn print_numbers(envelope: &Envelope<'_>, out: &mut Bytes) -> Result<(), NoMemory>
-    ensures ok { OnOk result (out.new ≡ out.old ++ numbers_text (contents envelope.now)) }
-    ensures err { OnErr result (out.new ≡ out.old) }
-{
-    let before = out.len();
-    if let Err(fault) = put_numbers(envelope, out) {
-        out.truncate(before);
-        return Err(fault);
-    }
-    Ok(())
-}
-
-#[tactic(auto, using(artery_base::proofs::Appending::keeps_front))]
+#[tactic(auto, using(crate::proofs::Appending::keeps_front, crate::proofs::Appending::keeps_on))]
 fn put_names(envelope: &Envelope<'_>, out: &mut Bytes) -> Result<(), NoMemory>
     ensures ok { OnOk result (out.new ≡ out.old ++ names_text (contents envelope.now)) }
     ensures kept { take (length out.old) out.new ≡ out.old }
@@ -78,62 +67,26 @@ fn put_names(envelope: &Envelope<'_>, out: &mut Bytes) -> Result<(), NoMemory>
     put_name(&envelope.manifest, out)
 }
 
-fn print_names(envelope: &Envelope<'_>, out: &mut Bytes) -> Result<(), NoMemory>
-    ensures ok { OnOk result (out.new ≡ out.old ++ names_text (contents envelope.now)) }
-    ensures err { OnErr result (out.new ≡ out.old) }
-{
-    let before = out.len();
-    if let Err(fault) = put_names(envelope, out) {
-        out.truncate(before);
-        return Err(fault);
-    }
-    Ok(())
-}
-
-#[tactic(auto, using(artery_base::proofs::Appending::keeps_front))]
+#[tactic(auto, using(crate::proofs::Appending::keeps_front, crate::proofs::Appending::keeps_on))]
 fn put_contents(envelope: &Envelope<'_>, out: &mut Bytes) -> Result<(), NoMemory>
     ensures ok { OnOk result (out.new ≡ out.old ++ contents_text (contents envelope.now)) }
     ensures kept { take (length out.old) out.new ≡ out.old }
 {
-    print_numbers(envelope, out)?;
+    put_numbers(envelope, out)?;
     out.push(b' ')?;
-    print_names(envelope, out)?;
+    put_names(envelope, out)?;
     out.push(b' ')?;
     print_hex(envelope.payload, out)
 }
 
-fn print_contents(envelope: &Envelope<'_>, out: &mut Bytes) -> Result<(), NoMemory>
-    ensures ok { OnOk result (out.new ≡ out.old ++ contents_text (contents envelope.now)) }
-    ensures err { OnErr result (out.new ≡ out.old) }
-{
-    let before = out.len();
-    if let Err(fault) = put_contents(envelope, out) {
-        out.truncate(before);
-        return Err(fault);
-    }
-    Ok(())
-}
-
-#[tactic(auto, using(artery_base::proofs::Appending::keeps_front))]
+#[tactic(auto, using(crate::proofs::Appending::keeps_front, crate::proofs::Appending::keeps_on))]
 fn put_frame_line(envelope: &Envelope<'_>, out: &mut Bytes) -> Result<(), NoMemory>
     ensures ok { OnOk result (out.new ≡ out.old ++ frame_line (contents envelope.now)) }
     ensures kept { take (length out.old) out.new ≡ out.old }
 {
     out.extend_from_slice(b"frame ")?;
-    print_contents(envelope, out)?;
+    put_contents(envelope, out)?;
     out.push(b'\n')
-}
-
-fn print_frame_line(envelope: &Envelope<'_>, out: &mut Bytes) -> Result<(), NoMemory>
-    ensures ok { OnOk result (out.new ≡ out.old ++ frame_line (contents envelope.now)) }
-    ensures err { OnErr result (out.new ≡ out.old) }
-{
-    let before = out.len();
-    if let Err(fault) = put_frame_line(envelope, out) {
-        out.truncate(before);
-        return Err(fault);
-    }
-    Ok(())
 }
 
 fn which_word(which: Which) -> &'static [u8]
@@ -154,7 +107,7 @@ fn put_which(which: Which, out: &mut Bytes) -> Result<(), NoMemory>
 }
 
 // A word and a number.
-#[tactic(auto, using(artery_base::proofs::Appending::keeps_front))]
+#[tactic(auto, using(crate::proofs::Appending::keeps_front, crate::proofs::Appending::keeps_on))]
 fn put_count(word: &[u8], count: u64, out: &mut Bytes) -> Result<(), NoMemory>
     ensures ok { OnOk result (out.new ≡ out.old ++ word.now ++ decimal count) }
     ensures kept { take (length out.old) out.new ≡ out.old }
@@ -163,7 +116,7 @@ fn put_count(word: &[u8], count: u64, out: &mut Bytes) -> Result<(), NoMemory>
     print_number(count, out)
 }
 
-#[tactic(auto, using(artery_base::proofs::Appending::keeps_front))]
+#[tactic(auto, using(crate::proofs::Appending::keeps_front, crate::proofs::Appending::keeps_on))]
 fn put_literal_past(which: Which, out: &mut Bytes) -> Result<(), NoMemory>
     ensures ok { OnOk result (out.new ≡ out.old ++ header_fault_text (LiteralPast which)) }
     ensures kept { take (length out.old) out.new ≡ out.old }
@@ -172,7 +125,7 @@ fn put_literal_past(which: Which, out: &mut Bytes) -> Result<(), NoMemory>
     put_which(which, out)
 }
 
-#[tactic(auto, using(artery_base::proofs::Appending::keeps_front))]
+#[tactic(auto, using(crate::proofs::Appending::keeps_front, crate::proofs::Appending::keeps_on))]
 fn put_not_ascii(which: Which, out: &mut Bytes) -> Result<(), NoMemory>
     ensures ok { OnOk result (out.new ≡ out.old ++ header_fault_text (NotAscii which)) }
     ensures kept { take (length out.old) out.new ≡ out.old }
@@ -181,7 +134,7 @@ fn put_not_ascii(which: Which, out: &mut Bytes) -> Result<(), NoMemory>
     put_which(which, out)
 }
 
-#[tactic(auto, using(artery_base::proofs::Appending::keeps_front))]
+#[tactic(auto, using(crate::proofs::Appending::keeps_front, crate::proofs::Appending::keeps_on))]
 fn put_header_fault(fault: HeaderFault, out: &mut Bytes) -> Result<(), NoMemory>
     ensures ok { OnOk result (out.new ≡ out.old ++ header_fault_text fault) }
     ensures kept { take (length out.old) out.new ≡ out.old }
@@ -195,29 +148,17 @@ fn put_header_fault(fault: HeaderFault, out: &mut Bytes) -> Result<(), NoMemory>
     }
 }
 
-fn print_header_fault(fault: HeaderFault, out: &mut Bytes) -> Result<(), NoMemory>
-    ensures ok { OnOk result (out.new ≡ out.old ++ header_fault_text fault) }
-    ensures err { OnErr result (out.new ≡ out.old) }
-{
-    let before = out.len();
-    if let Err(fault) = put_header_fault(fault, out) {
-        out.truncate(before);
-        return Err(fault);
-    }
-    Ok(())
-}
-
-#[tactic(auto, using(artery_base::proofs::Appending::keeps_front))]
+#[tactic(auto, using(crate::proofs::Appending::keeps_front, crate::proofs::Appending::keeps_on))]
 fn put_drop_line(fault: HeaderFault, out: &mut Bytes) -> Result<(), NoMemory>
     ensures ok { OnOk result (out.new ≡ out.old ++ drop_line fault) }
     ensures kept { take (length out.old) out.new ≡ out.old }
 {
     out.extend_from_slice(b"drop ")?;
-    print_header_fault(fault, out)?;
+    put_header_fault(fault, out)?;
     out.push(b'\n')
 }
 
-#[tactic(auto, using(artery_base::proofs::Appending::keeps_front))]
+#[tactic(auto, using(crate::proofs::Appending::keeps_front, crate::proofs::Appending::keeps_on))]
 fn put_control_line(control: &Control, out: &mut Bytes) -> Result<(), NoMemory>
     ensures ok { OnOk result (out.new ≡ out.old ++ control_line (Ok control.now)) }
     ensures kept { take (length out.old) out.new ≡ out.old }
@@ -227,7 +168,7 @@ fn put_control_line(control: &Control, out: &mut Bytes) -> Result<(), NoMemory>
     out.push(b'\n')
 }
 
-#[tactic(auto, using(artery_base::proofs::Appending::keeps_front))]
+#[tactic(auto, using(crate::proofs::Appending::keeps_front, crate::proofs::Appending::keeps_on))]
 fn put_fault_line(fault: ControlFault, out: &mut Bytes) -> Result<(), NoMemory>
     ensures ok { OnOk result (out.new ≡ out.old ++ control_line (Err fault)) }
     ensures kept { take (length out.old) out.new ≡ out.old }
@@ -276,31 +217,15 @@ fn put_message_lines(
     }
 }
 
-fn print_message_lines(
-    alloc: Global,
-    envelope: &Envelope<'_>,
-    out: &mut Bytes,
-) -> Result<(), NoMemory>
-    ensures ok { OnOk result (out.new ≡ out.old ++ message_lines (contents envelope.now)) }
-    ensures err { OnErr result (out.new ≡ out.old) }
-{
-    let before = out.len();
-    if let Err(fault) = put_message_lines(alloc, envelope, out) {
-        out.truncate(before);
-        return Err(fault);
-    }
-    Ok(())
-}
-
-#[tactic(auto, using(artery_base::proofs::Appending::keeps_front))]
+#[tactic(auto, using(crate::proofs::Appending::keeps_front, crate::proofs::Appending::keeps_on))]
 fn put_frame(alloc: Global, bytes: &[u8], out: &mut Bytes) -> Result<(), NoMemory>
     ensures ok { OnOk result (out.new ≡ out.old ++ frame_lines bytes.now) }
     ensures kept { take (length out.old) out.new ≡ out.old }
 {
     match read_envelope(bytes) {
         Ok(envelope) => {
-            print_frame_line(&envelope, out)?;
-            print_message_lines(alloc, &envelope, out)
+            put_frame_line(&envelope, out)?;
+            put_message_lines(alloc, &envelope, out)
         }
         Err(fault) => put_drop_line(fault, out),
     }
@@ -314,9 +239,6 @@ pub fn print_frame(alloc: Global, bytes: &[u8], out: &mut Bytes) -> Result<(), N
     ensures err { OnErr result (out.new ≡ out.old) }
 {
     let before = out.len();
-    if let Err(fault) = put_frame(alloc, bytes, out) {
-        out.truncate(before);
-        return Err(fault);
-    }
-    Ok(())
+    let appended = put_frame(alloc, bytes, out);
+    out.settle(before, appended)
 }

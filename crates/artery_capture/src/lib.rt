@@ -9,12 +9,14 @@ mod capture;
 mod control_text;
 mod fault_text;
 mod frame_text;
+mod laws;
 mod progress;
 
 pub use capture::Capture;
 pub use control_text::print_control;
 pub use fault_text::print_control_fault;
 pub use frame_text::print_frame;
+pub use laws::nothing_told;
 
 #[cfg(test)]
 mod tests;

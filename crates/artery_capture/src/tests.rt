@@ -55,10 +55,11 @@ fn connections_are_shown(rt: HostRuntime) -> Result<(), Fail> {
             "cut at {cut}"
         );
     }
-    let connections: [(&[u8], &[u8], bool); 7] = [
+    let connections: [(&[u8], &[u8], bool); 8] = [
         (b"", b"rest 0\n", false),
         (b"AKK", b"rest 3\n", false),
         (b"AKXA\x01", b"fault stream bad-magic 2\n", true),
+        (b"AKXAAKKA", b"fault stream bad-magic 2\n", true),
         (b"AKKA\x03", b"fault stream bad-stream 4\n", true),
         (
             b"AKKA\x02\x01\0\x04\0\0",

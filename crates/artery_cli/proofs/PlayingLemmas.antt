@@ -3,19 +3,20 @@ use Rattle.std.proofs.Common.{◌≡◌, ℕ, suc, ◌+◌, ◌<◌, length, get
 use Rattle.std.specs.Prelude.{Option, None, Some, Result, Ok, Err}
 use Rattle.std.specs.Io.KnownBytes.{Appends}
 use Rattle.std.proofs.lemmas.List.Concat.{flat_map-append}
-use Rattle.artery_base.specs.Written.{TakesFront}
+use Rattle.artery_io.specs.Written.{TakesFront}
 use Rattle.artery_cli.specs.declared.stop.Stop.{Stop}
 use Rattle.artery_cli.specs.declared.stop.Stop.TheVariants as stops
-use Rattle.artery_cli.specs.Leaving.{IsFrontOf, WritingStops}
+use Rattle.artery_base.specs.Words.{IsPrefix}
+use Rattle.artery_cli.specs.Leaving.{WritingStops}
 use Rattle.artery_cli.specs.Playing.{Happened, Refused, StopsAt, PlayedTo, PlayStops}
 use Rattle.artery_cli.proofs.Sinks.{appends_nothing, appends_more, appends_kept, takes_more, front_of_front, whole_is_front}
-use Rattle.artery_script.specs.declared.event.Event.{Event}
+use Rattle.artery_early.specs.declared.event.Event.{Event}
 use Rattle.artery_world.specs.declared.fault.Why.{Why}
 use Rattle.artery_world.specs.declared.fault.WorldLimit.{WorldLimit}
 use Rattle.artery_world.specs.declared.fault.WorldFault.{WorldFault}
 use Rattle.artery_world.specs.declared.fault.WorldFault.TheVariants.{NotAllowed, Limit}
 use Rattle.artery_world.specs.declared.line.Line.{Line}
-use Rattle.artery_script.specs.declared.script.ScriptLine.{ScriptLine}
+use Rattle.artery_early.specs.declared.script.ScriptLine.{ScriptLine}
 use Rattle.artery_world.specs.Replay.{Run, goes_on, run_from, with_lines_before, with_lines_before_result}
 use Rattle.artery_world.specs.Step.{step, Happens}
 use Rattle.artery_world.specs.Texts.{journal_text}
@@ -96,28 +97,28 @@ line_is_first items all i x same h e =
 -- ---- the journal of a run goes on behind the lines that were written so far
 
 -- an event adds lines behind those that were written before it
-with_front : (lines : List Line) (r : Result World WorldFault) (v : World) → with_lines_before_result lines r ≡ Ok v → IsFrontOf lines v.journal
+with_front : (lines : List Line) (r : Result World WorldFault) (v : World) → with_lines_before_result lines r ≡ Ok v → IsPrefix lines v.journal
 with_front lines (Ok u) v h =
     let same : with_lines_before lines u ≡ v = cc in
     (u.journal, ap (λ (w : World). w.journal) same)
 with_front lines (Err fault) v h = absurd cc
 
-step_grows : GoesOn → (event : Event) (net : Net) (lines : List Line) (v : World) → step event (seen net lines) ≡ Ok v → IsFrontOf lines v.journal
+step_grows : GoesOn → (event : Event) (net : Net) (lines : List Line) (v : World) → step event (seen net lines) ≡ Ok v → IsPrefix lines v.journal
 step_grows law event net lines v h = with_front lines (step event (seen net [])) v (sym (law lines event (seen net [])) ∙ ap (step event) (seen_before net lines) ∙ h)
 
-run_grows_by : GoesOn → (l : ScriptLine) (ls : List ScriptLine) (net : Net) (lines : List Line) → ((after : Net) (longer : List Line) → IsFrontOf longer (run_from ls (seen after longer)).world.journal)
-    → (r : Result World WorldFault) → step l.event (seen net lines) ≡ r → IsFrontOf lines (goes_on l.line (seen net lines) (run_from ls) r).world.journal
+run_grows_by : GoesOn → (l : ScriptLine) (ls : List ScriptLine) (net : Net) (lines : List Line) → ((after : Net) (longer : List Line) → IsPrefix longer (run_from ls (seen after longer)).world.journal)
+    → (r : Result World WorldFault) → step l.event (seen net lines) ≡ r → IsPrefix lines (goes_on l.line (seen net lines) (run_from ls) r).world.journal
 run_grows_by law l ls net lines rest (Ok v) h = front_of_front lines v.journal _ (step_grows law l.event net lines v h) (rest v.net v.journal)
 run_grows_by law l ls net lines rest (Err fault) h = whole_is_front lines
 
-run_grows : GoesOn → (rest : List ScriptLine) (net : Net) (lines : List Line) → IsFrontOf lines (run_from rest (seen net lines)).world.journal
+run_grows : GoesOn → (rest : List ScriptLine) (net : Net) (lines : List Line) → IsPrefix lines (run_from rest (seen net lines)).world.journal
 run_grows law [] net lines = whole_is_front lines
 run_grows law (l ∷ ls) net lines = run_grows_by law l ls net lines (λ after longer. run_grows law ls after longer) (step l.event (seen net lines)) refl
 
 -- the lines so far are the first of the whole journal
 so_far_is_front : GoesOn → (all rest : List ScriptLine) (net : Net) (lines : List Line) → run_from rest (seen net lines) ≡ run_from all (seen (record { started = []; live = []; pending = []; links = [] }) [])
-    → IsFrontOf lines (run_from all (seen (record { started = []; live = []; pending = []; links = [] }) [])).world.journal
-so_far_is_front law all rest net lines h = let P : Run → Type 0 = λ x. IsFrontOf lines x.world.journal in subst P h (run_grows law rest net lines)
+    → IsPrefix lines (run_from all (seen (record { started = []; live = []; pending = []; links = [] }) [])).world.journal
+so_far_is_front law all rest net lines h = let P : Run → Type 0 = λ x. IsPrefix lines x.world.journal in subst P h (run_grows law rest net lines)
 
 pub plays_stopped : GoesOn → (all rest more : List ScriptLine) (l : ScriptLine) (net : Net) (old mid new : Option (List ℕ)) (stop : Stop)
     → PlayedSoFar all rest net old mid → rest ≡ l ∷ more → StopsAt stop l.event net mid new → PlayStops stop all old new

@@ -2,8 +2,8 @@
 use Rattle.std.proofs.Common.{ℕ, List, [], ◌++◌, refl, sym, ◌∙◌, ap, append-nil, append_assoc}
 use Rattle.std.specs.Prelude.{Option, None, Some}
 use Rattle.std.specs.Io.KnownBytes.{Appends, Keeps}
-use Rattle.artery_base.specs.Written.{TakesFront}
-use Rattle.artery_cli.specs.Leaving.{IsFrontOf}
+use Rattle.artery_io.specs.Written.{TakesFront}
+use Rattle.artery_base.specs.Words.{IsPrefix}
 
 pub keeps_same : (held : Option (List ℕ)) → Keeps held held
 keeps_same None = tt
@@ -38,8 +38,8 @@ pub takes_all : (old new : Option (List ℕ)) (text : List ℕ) → Appends old 
 takes_all old new text h = ([], (text, append-nil text, h))
 
 -- a front of a list is one of a longer list
-pub front_of_front : {X : Type 0} (xs ys zs : List X) → IsFrontOf xs ys → IsFrontOf ys zs → IsFrontOf xs zs
+pub front_of_front : {X : Type 0} (xs ys zs : List X) → IsPrefix xs ys → IsPrefix ys zs → IsPrefix xs zs
 front_of_front xs ys zs h k = (h.0 ++ k.0, sym (append_assoc xs h.0 k.0) ∙ ap (λ front. front ++ k.0) h.1 ∙ k.1)
 
-pub whole_is_front : {X : Type 0} (xs : List X) → IsFrontOf xs xs
+pub whole_is_front : {X : Type 0} (xs : List X) → IsPrefix xs xs
 whole_is_front xs = ([], append-nil xs)

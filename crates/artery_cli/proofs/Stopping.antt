@@ -3,64 +3,68 @@ use Rattle.std.proofs.Common.{◌≡◌, ℕ, ◌≤◌, ◌<◌, Bool, true, fa
 use Rattle.std.specs.Prelude.{Option, None, Some, IfSome, IfOk, OnOk, Result, Ok, Err, nat_lt, codes}
 use Rattle.std.proofs.lemmas.Bool.Decides.{nat_tests}
 use Rattle.std.specs.Io.KnownBytes.{Appends, Keeps, Consumes}
-use Rattle.artery_base.specs.Written.{TakesFront}
-use Rattle.artery_capture.proofs.Showing.{nothing_told as no_lines}
+use Rattle.artery_io.specs.Written.{TakesFront}
+use Rattle.artery_capture.specs.Shown.{front_lines}
 use Rattle.artery_cli.specs.declared.command.Command.{Command}
 use Rattle.artery_cli.specs.declared.command.Command.TheVariants.{Show, Whole}
 use Rattle.artery_cli.specs.declared.command.Task.{Task}
 use Rattle.artery_cli.specs.declared.command.Task.TheVariants.{Replay, Make, CheckControl}
 use Rattle.artery_cli.specs.declared.stop.Stop.{Stop}
 use Rattle.artery_cli.specs.declared.stop.Stop.TheVariants as stops
-use Rattle.artery_cli.specs.declared.input.TheConstants.{MOST_BYTES}
+use Rattle.artery_cli.specs.Limits.{most_bytes}
 use Rattle.artery_cli.specs.declared.refusal.Refusal.{Refusal}
 use Rattle.artery_cli.specs.declared.refusal.Refusal.TheVariants.{TooManyBytes}
 use Rattle.artery_cli.specs.declared.input.Gathered.TheVariants as Gathered
 use Rattle.artery_cli.specs.declared.input.Gathered.TheVariants.{TooLong}
 use Rattle.artery_cli.specs.Reading.{Gathers}
 use Rattle.artery_cli.specs.Answers.{Answer, Answers, text_answer, task_answer, answer_of, journal_of, journal_of_script, memory_fault, read_fault, stopped, stop_text, script_answer, refusal_answer}
-use Rattle.artery_cli.specs.Leaving.{IsFrontOf, told_of, LeavesRead, IsPart, LeavesPart, LeavesFront, Leaves, WritingStops}
+use Rattle.artery_base.specs.Words.{IsPrefix}
+use Rattle.artery_cli.specs.Leaving.{told_of, LeavesRead, IsPart, LeavesPart, LeavesFront, Leaves, WritingStops}
 use Rattle.artery_cli.specs.Playing.{PlayedTo, PlayStops}
 use Rattle.artery_cli.proofs.Sinks.{kept_appends, appends_nothing, appends_more, appends_kept, takes_more, whole_is_front}
-use Rattle.artery_script.specs.declared.script.ScriptFault.{ScriptFault}
-use Rattle.artery_script.specs.declared.script.ScriptLine.{ScriptLine}
-use Rattle.artery_script.specs.Script.{script_of}
+use Rattle.artery_early.specs.declared.script.ScriptFault.{ScriptFault}
+use Rattle.artery_early.specs.declared.script.ScriptLine.{ScriptLine}
+use Rattle.artery_early.specs.Script.{script_of}
 use Rattle.artery_world.specs.declared.fault.WorldFault.{WorldFault}
 use Rattle.artery_world.specs.Replay.{run}
 use Rattle.artery_world.specs.Texts.{journal_text}
 
-nothing_is_front : {X : Type 0} (xs : List X) → IsFrontOf [] xs
+nothing_is_front : {X : Type 0} (xs : List X) → IsPrefix [] xs
 nothing_is_front xs = (xs, refl)
 
 -- what a command has written behind some first bytes is a part of its answer
-pub told_is_part : (c : Option Command) (seen text : List ℕ) → IsFrontOf seen text → IsPart c text (told_of c seen)
+pub told_is_part : (c : Option Command) (seen text : List ℕ) → IsPrefix seen text → IsPart c text (told_of c seen)
 told_is_part None seen text h = refl
 told_is_part (Some Show) seen text h = (seen, h, refl)
 told_is_part (Some (Whole Replay)) seen text h = ([], nothing_is_front (journal_of text), refl)
 told_is_part (Some (Whole Make)) seen text h = refl
 told_is_part (Some (Whole (CheckControl manifest))) seen text h = refl
 
--- before any byte nothing was told
-nothing_told : (c : Option Command) → told_of c [] ≡ []
-nothing_told None = refl
-nothing_told (Some Show) = no_lines
-nothing_told (Some (Whole task)) = refl
+-- a task has written nothing before its answer
+nothing_of_task : (task : Task) (text : List ℕ) → IsPart (Some (Whole task)) text []
+nothing_of_task task text = told_is_part (Some (Whole task)) [] text (nothing_is_front text)
 
-pub nothing_is_part : (c : Option Command) (text : List ℕ) → IsPart c text []
-nothing_is_part c text = subst (IsPart c text) (nothing_told c) (told_is_part c [] text (nothing_is_front text))
+-- nor has a command before any byte, since no bytes have no lines
+nothing_is_part : front_lines [] ≡ [] → (c : Option Command) (text : List ℕ) → IsPart c text []
+nothing_is_part no_lines c text = subst (IsPart c text) (nothing_told c) (told_is_part c [] text (nothing_is_front text))
+  where
+    nothing_told : (c : Option Command) → told_of c [] ≡ []
+    nothing_told None = refl
+    nothing_told (Some Show) = no_lines
+    nothing_told (Some (Whole task)) = refl
 
 -- a command that writes one text alone
-pub writing_stops : (stop : Stop) (c : Option Command) (text : List ℕ) (old new : Option (List ℕ)) → WritingStops stop (answer_of c text).written old new → Leaves stop c text old new
-writing_stops stops.Read c text old new h = tt
-writing_stops stops.Write c text old new h = record { whole = (answer_of c text).written; is_left = inl refl; taken = h }
-writing_stops stops.NoMemory c text old new h = record { part = []; is_part = nothing_is_part c text; written = kept_appends old new h }
+writing_stops : (stop : Stop) (c : Option Command) (text : List ℕ) (old new : Option (List ℕ)) → IsPart c text [] → WritingStops stop (answer_of c text).written old new → Leaves stop c text old new
+writing_stops stops.Read c text old new none h = tt
+writing_stops stops.Write c text old new none h = record { whole = (answer_of c text).written; is_left = inl refl; taken = h }
+writing_stops stops.NoMemory c text old new none h = record { part = []; is_part = none; written = kept_appends old new h }
 
 -- memory ran out before anything was written
-pub leaves_nothing : (c : Option Command) (text : List ℕ) (held : Option (List ℕ)) → Leaves stops.NoMemory c text held held
-leaves_nothing c text held = writing_stops stops.NoMemory c text held held (keeps held)
-  where
-    keeps : (held : Option (List ℕ)) → Keeps held held
-    keeps None = tt
-    keeps (Some xs) = refl
+leaves_nothing : (c : Option Command) (text : List ℕ) (held : Option (List ℕ)) → IsPart c text [] → Leaves stops.NoMemory c text held held
+leaves_nothing c text held none = record { part = []; is_part = none; written = appends_nothing held }
+
+pub task_leaves_nothing : (task : Task) (text : List ℕ) (held : Option (List ℕ)) → Leaves stops.NoMemory (Some (Whole task)) text held held
+task_leaves_nothing task text held = leaves_nothing (Some (Whole task)) text held (nothing_of_task task text)
 
 -- ---- the last line
 
@@ -80,7 +84,7 @@ told_part (Some text) old mid new c h k = record {
   written = subst (λ front. Appends old new (front ++ memory_fault)) (append-nil h.part) (appends_more old mid new (h.part ++ []) memory_fault h.written k);
 }
 
-consumed_front : (text seen : List ℕ) (left : Option (List ℕ)) → Consumes (Some text) left seen → IsFrontOf seen text
+consumed_front : (text seen : List ℕ) (left : Option (List ℕ)) → Consumes (Some text) left seen → IsPrefix seen text
 consumed_front text seen None h = absurd h
 consumed_front text seen (Some rest) h = (rest, sym h)
 
@@ -104,35 +108,35 @@ cut_part (Some text) old mid new c h k = record {
 
 -- ---- a script
 
-short_test : (n : ℕ) → n ≤ MOST_BYTES → nat_lt MOST_BYTES n ≡ false
+short_test : (n : ℕ) → n ≤ most_bytes → nat_lt most_bytes n ≡ false
 short_test n h = grind (arith, nat_tests, h)
 
-journal_is : (text : List ℕ) (script : List ScriptLine) → length text ≤ MOST_BYTES → script_of text ≡ Ok script → journal_of text ≡ (run script).world.journal
+journal_is : (text : List ℕ) (script : List ScriptLine) → length text ≤ most_bytes → script_of text ≡ Ok script → journal_of text ≡ (run script).world.journal
 journal_is text script l e =
     ap (λ (b : Bool). cond b [] (journal_of_script (script_of text))) (short_test (length text) l)
     ∙ ap journal_of_script e
 
 -- a script that was played in part
-pub played_part : (text : List ℕ) (script : List ScriptLine) (stop : Stop) (old new : Option (List ℕ)) → length text ≤ MOST_BYTES → script_of text ≡ Ok script → PlayStops stop script old new → Leaves stop (Some (Whole Replay)) text old new
+pub played_part : (text : List ℕ) (script : List ScriptLine) (stop : Stop) (old new : Option (List ℕ)) → length text ≤ most_bytes → script_of text ≡ Ok script → PlayStops stop script old new → Leaves stop (Some (Whole Replay)) text old new
 played_part text script stops.Read old new l e h = tt
 played_part text script stops.NoMemory old new l e h = record {
   part = journal_text h.lines;
-  is_part = (h.lines, subst (IsFrontOf h.lines) (sym (journal_is text script l e)) h.is_front, refl);
+  is_part = (h.lines, subst (IsPrefix h.lines) (sym (journal_is text script l e)) h.is_front, refl);
   written = subst (Appends old new) (sym (append-nil (journal_text h.lines))) h.written;
 }
 played_part text script stops.Write old new l e h = record {
   whole = journal_text h.lines;
-  is_left = inr (record { part = journal_text h.lines; is_part = (h.lines, subst (IsFrontOf h.lines) (sym (journal_is text script l e)) h.is_front, refl); last = []; is_last = inl refl; is = sym (append-nil (journal_text h.lines)) });
+  is_left = inr (record { part = journal_text h.lines; is_part = (h.lines, subst (IsPrefix h.lines) (sym (journal_is text script l e)) h.is_front, refl); last = []; is_last = inl refl; is = sym (append-nil (journal_text h.lines)) });
   taken = h.taken;
 }
 
 -- a script that was played, but whose last line could not be made or written
-pub played_stopped : (text : List ℕ) (script : List ScriptLine) (s : ℕ × WorldFault) (stop : Stop) (old mid new : Option (List ℕ)) → length text ≤ MOST_BYTES → script_of text ≡ Ok script → PlayedTo script (Some s) old mid
+pub played_stopped : (text : List ℕ) (script : List ScriptLine) (s : ℕ × WorldFault) (stop : Stop) (old mid new : Option (List ℕ)) → length text ≤ most_bytes → script_of text ≡ Ok script → PlayedTo script (Some s) old mid
     → WritingStops stop (stop_text s.0 s.1) mid new → Leaves stop (Some (Whole Replay)) text old new
 played_stopped text script s stops.Read old mid new l e p h = tt
 played_stopped text script s stops.NoMemory old mid new l e p h = record {
   part = journal_text (run script).world.journal;
-  is_part = ((run script).world.journal, subst (IsFrontOf (run script).world.journal) (sym (journal_is text script l e)) (whole_is_front (run script).world.journal), refl);
+  is_part = ((run script).world.journal, subst (IsPrefix (run script).world.journal) (sym (journal_is text script l e)) (whole_is_front (run script).world.journal), refl);
   written = subst (Appends old new) (sym (append-nil (journal_text (run script).world.journal))) (appends_kept old mid new (journal_text (run script).world.journal) p.written h);
 }
 played_stopped text script s stops.Write old mid new l e p h = record {
@@ -146,14 +150,14 @@ played_stopped text script s stops.Write old mid new l e p h = record {
 
 -- ---- a task
 
-long_test : (n : ℕ) → MOST_BYTES < n → nat_lt MOST_BYTES n ≡ true
+long_test : (n : ℕ) → most_bytes < n → nat_lt most_bytes n ≡ true
 long_test n h = grind (arith, nat_tests, h)
 
 -- the text of a task's answer could not be made or written
-pub text_stops : (stop : Stop) (task : Task) (text : List ℕ) (old new : Option (List ℕ)) → length text ≤ MOST_BYTES → WritingStops stop (text_answer task text).written old new → Leaves stop (Some (Whole task)) text old new
+pub text_stops : (stop : Stop) (task : Task) (text : List ℕ) (old new : Option (List ℕ)) → length text ≤ most_bytes → WritingStops stop (text_answer task text).written old new → Leaves stop (Some (Whole task)) text old new
 text_stops stop task text old new l h =
     let same : text_answer task text ≡ task_answer task text = ap (λ (b : Bool). cond b (refusal_answer TooManyBytes) (text_answer task text)) (sym (short_test (length text) l)) in
-    writing_stops stop (Some (Whole task)) text old new (subst (λ (a : Answer). WritingStops stop a.written old new) same h)
+    writing_stops stop (Some (Whole task)) text old new (nothing_of_task task text) (subst (λ (a : Answer). WritingStops stop a.written old new) same h)
 
 -- the line of a text that is too long could not be made or written
 pub long_stops : (left : Option (List ℕ)) (stop : Stop) (task : Task) (old new : Option (List ℕ)) → IfSome left (λ text. Gathers TooLong text) → WritingStops stop (refusal_answer TooManyBytes).written old new
@@ -161,7 +165,7 @@ pub long_stops : (left : Option (List ℕ)) (stop : Stop) (task : Task) (old new
 long_stops None stop task old new g h = tt
 long_stops (Some text) stop task old new g h =
     let same : refusal_answer TooManyBytes ≡ task_answer task text = ap (λ (b : Bool). cond b (refusal_answer TooManyBytes) (text_answer task text)) (sym (long_test (length text) g)) in
-    writing_stops stop (Some (Whole task)) text old new (subst (λ (a : Answer). WritingStops stop a.written old new) same h)
+    writing_stops stop (Some (Whole task)) text old new (nothing_of_task task text) (subst (λ (a : Answer). WritingStops stop a.written old new) same h)
 
 -- what was gathered is the whole text
 pub gathered_stops : (left : Option (List ℕ)) (bytes : List ℕ) (stop : Stop) (task : Task) (old new : Option (List ℕ)) → IfSome left (λ text. Gathers (Gathered.Whole bytes) text) → Leaves stop (Some (Whole task)) bytes old new
@@ -174,17 +178,21 @@ pub gathered_read : (left left' held : Option (List ℕ)) (task : Task) → ((se
 gathered_read left left' held task s = record { seen = s.0; consumed = s.1; written = appends_nothing held }
 
 -- memory ran out before anything was read or written
-pub leaves_nothing_here : (left : Option (List ℕ)) (c : Option Command) (held : Option (List ℕ)) → IfSome left (λ text. Leaves stops.NoMemory c text held held)
-leaves_nothing_here None c held = tt
-leaves_nothing_here (Some text) c held = leaves_nothing c text held
+pub leaves_nothing_here : front_lines [] ≡ [] → (left : Option (List ℕ)) (c : Option Command) (held : Option (List ℕ)) → IfSome left (λ text. Leaves stops.NoMemory c text held held)
+leaves_nothing_here no_lines None c held = tt
+leaves_nothing_here no_lines (Some text) c held = leaves_nothing c text held (nothing_is_part no_lines c text)
+
+pub task_leaves_nothing_here : (left : Option (List ℕ)) (task : Task) (held : Option (List ℕ)) → IfSome left (λ text. Leaves stops.NoMemory (Some (Whole task)) text held held)
+task_leaves_nothing_here None task held = tt
+task_leaves_nothing_here (Some text) task held = task_leaves_nothing task text held
 
 -- the line that tells that the words name no command could not be written
 pub words_stop : (left : Option (List ℕ)) (c : Option Command) (stop : Stop) (old new : Option (List ℕ)) → c ≡ None → WritingStops stop (codes "fault words\n") old new → IfSome left (λ text. Leaves stop c text old new)
 words_stop None c stop old new e h = tt
-words_stop (Some text) c stop old new e h = writing_stops stop c text old new (subst (λ x. WritingStops stop (answer_of x text).written old new) (sym e) h)
+words_stop (Some text) c stop old new e h = subst (λ x. Leaves stop x text old new) (sym e) (writing_stops stop None text old new refl h)
 
 -- the line that tells the first fault of a script could not be made or written
-pub refused_script : (text : List ℕ) (stop : Stop) (refusal : Refusal) (fault : ScriptFault) (old new : Option (List ℕ)) → length text ≤ MOST_BYTES → script_of text ≡ Err fault → (script_answer (Err fault)).written ≡ (refusal_answer refusal).written
+pub refused_script : (text : List ℕ) (stop : Stop) (refusal : Refusal) (fault : ScriptFault) (old new : Option (List ℕ)) → length text ≤ most_bytes → script_of text ≡ Err fault → (script_answer (Err fault)).written ≡ (refusal_answer refusal).written
     → WritingStops stop (refusal_answer refusal).written old new → Leaves stop (Some (Whole Replay)) text old new
 refused_script text stop refusal fault old new l e s h =
     let same : (refusal_answer refusal).written ≡ (script_answer (script_of text)).written = sym s ∙ ap (λ (r : Result (List ScriptLine) ScriptFault). (script_answer r).written) (sym e) in
@@ -198,6 +206,6 @@ words_answer None c (Ok status) old new e h s = tt
 words_answer (Some text) c (Ok status) old new e h s = subst (λ x. Answers (answer_of x text) old new status) (sym e) (record { written = h; is_status = s })
 
 -- the last line of a script that was played could not be made or written
-pub played_left : (text : List ℕ) (script : List ScriptLine) (stopped_at : Option (ℕ × WorldFault)) (s : ℕ × WorldFault) (stop : Stop) (old mid new : Option (List ℕ)) → length text ≤ MOST_BYTES → script_of text ≡ Ok script
+pub played_left : (text : List ℕ) (script : List ScriptLine) (stopped_at : Option (ℕ × WorldFault)) (s : ℕ × WorldFault) (stop : Stop) (old mid new : Option (List ℕ)) → length text ≤ most_bytes → script_of text ≡ Ok script
     → PlayedTo script stopped_at old mid → stopped_at ≡ Some s → WritingStops stop (stop_text s.0 s.1) mid new → Leaves stop (Some (Whole Replay)) text old new
 played_left text script stopped_at s stop old mid new l e p is h = played_stopped text script s stop old mid new l e (subst (λ x. PlayedTo script x old mid) is p) h

@@ -2,7 +2,7 @@
 use Rattle.std.specs.Prelude.{◌≡◌, ℕ, ◌+◌, nat_lt, if◌then◌else◌, List, [], ◌∷◌, ◌++◌, length, take, codes, decimal, Option, None, Some, Result, Ok, Err}
 use Rattle.std.specs.Result.{result_ok}
 use Rattle.std.specs.Io.KnownBytes.{Appends}
-use Rattle.artery_base.specs.Reading.{hex_of}
+use Rattle.artery_text.specs.Reading.{hex_of}
 use Rattle.artery_capture.specs.ControlText.{control_text, fault_text}
 use Rattle.artery_capture.specs.Shown.{front_lines, last_line, has_fault}
 use Rattle.artery_making.specs.Made.{stream_made}
@@ -12,7 +12,7 @@ use Rattle.artery_cli.specs.declared.command.Command.{Command}
 use Rattle.artery_cli.specs.declared.command.Command.TheVariants.{Show, Whole}
 use Rattle.artery_cli.specs.declared.command.Task.{Task}
 use Rattle.artery_cli.specs.declared.command.Task.TheVariants.{Replay, Make, CheckControl}
-use Rattle.artery_cli.specs.declared.input.TheConstants.{MOST_BYTES}
+use Rattle.artery_cli.specs.Limits.{most_bytes}
 use Rattle.artery_cli.specs.declared.refusal.Refusal.{Refusal}
 use Rattle.artery_cli.specs.declared.refusal.Refusal.TheVariants.{TooManyBytes, TooManyLines, BadLine}
 use Rattle.artery_cli.specs.Command.{command_of}
@@ -20,11 +20,11 @@ use Rattle.artery_control.specs.declared.control.Control.{Control}
 use Rattle.artery_control.specs.declared.fault.ControlFault.{ControlFault}
 use Rattle.artery_control.specs.Message.{message_of}
 use Rattle.artery_lines.specs.Lines.{lines_of}
-use Rattle.artery_lines.specs.declared.lines.TheConstants.{MOST_LINES}
-use Rattle.artery_script.specs.declared.script.ScriptFault.{ScriptFault}
-use Rattle.artery_script.specs.declared.script.ScriptFault.TheVariants as script_faults
-use Rattle.artery_script.specs.declared.script.ScriptLine.{ScriptLine}
-use Rattle.artery_script.specs.Script.{script_of}
+use Rattle.artery_lines.specs.Lines.{most_lines}
+use Rattle.artery_early.specs.declared.script.ScriptFault.{ScriptFault}
+use Rattle.artery_early.specs.declared.script.ScriptFault.TheVariants as script_faults
+use Rattle.artery_early.specs.declared.script.ScriptLine.{ScriptLine}
+use Rattle.artery_early.specs.Script.{script_of}
 use Rattle.artery_world.specs.declared.fault.Why.{Why}
 use Rattle.artery_world.specs.declared.fault.Why.TheVariants.{UsedUid, AddressLive, NotLive, OwnAddress}
 use Rattle.artery_world.specs.declared.fault.WorldLimit.{WorldLimit}
@@ -115,7 +115,7 @@ journal_of_script (Err fault) = []
 
 -- the journal that `replay` writes of a text
 abbrev pub journal_of : List ℕ → List Line
-journal_of text = if nat_lt MOST_BYTES (length text) then [] else journal_of_script (script_of text)
+journal_of text = if nat_lt most_bytes (length text) then [] else journal_of_script (script_of text)
 
 -- the line of the event that did not happen, where there was one
 abbrev pub stop_line : Option (ℕ × WorldFault) → List ℕ
@@ -129,7 +129,7 @@ script_fault_line (Err fault) = (script_answer (Err fault)).written
 
 -- what `replay` writes behind the journal: nothing, or one fault line
 abbrev pub fault_line : List ℕ → List ℕ
-fault_line text = if nat_lt MOST_BYTES (length text) then codes "fault limit bytes\n" else script_fault_line (script_of text)
+fault_line text = if nat_lt most_bytes (length text) then codes "fault limit bytes\n" else script_fault_line (script_of text)
 
 -- what was written is the journal of the text's script and at most one fault line behind it, and this journal is lawful
 pub record WritesLawfully (text : List ℕ) (old new : Option (List ℕ)) : Type 0 where
@@ -159,7 +159,7 @@ payload_in (line ∷ lines) = payload_unless (length lines) (result_ok (hex_of l
 
 -- the payload that a text tells
 abbrev pub payload_of : List ℕ → Result (List ℕ) Refusal
-payload_of text = if nat_lt MOST_LINES (length (lines_of text)) then Err TooManyLines else payload_in (lines_of text)
+payload_of text = if nat_lt most_lines (length (lines_of text)) then Err TooManyLines else payload_in (lines_of text)
 
 -- the line of a payload: the control message that it is, or with status 1 its first fault
 abbrev pub checked : Result Control ControlFault → Answer
@@ -179,11 +179,11 @@ capture_answer bytes = record { written = front_lines bytes ++ last_line bytes; 
 
 -- the lines of the whole frames that end within the limit or with the byte that passes it
 abbrev pub long_answer : List ℕ → Answer
-long_answer bytes = record { written = front_lines (take (MOST_BYTES + 1) bytes) ++ codes "fault limit bytes\n"; status = 6 }
+long_answer bytes = record { written = front_lines (take (most_bytes + 1) bytes) ++ codes "fault limit bytes\n"; status = 6 }
 
 -- a connection of at most 67,108,864 bytes is told whole
 abbrev pub show_answer : List ℕ → Answer
-show_answer bytes = if nat_lt MOST_BYTES (length bytes) then long_answer bytes else capture_answer bytes
+show_answer bytes = if nat_lt most_bytes (length bytes) then long_answer bytes else capture_answer bytes
 
 -- ---- all commands
 
@@ -195,7 +195,7 @@ text_answer (CheckControl manifest) text = check_answer manifest (payload_of tex
 
 -- an input of more than 67,108,864 bytes is refused
 abbrev pub task_answer : Task → List ℕ → Answer
-task_answer task text = if nat_lt MOST_BYTES (length text) then refusal_answer TooManyBytes else text_answer task text
+task_answer task text = if nat_lt most_bytes (length text) then refusal_answer TooManyBytes else text_answer task text
 
 -- the answer of a command to its input; other words are no command
 abbrev pub answer_of : Option Command → List ℕ → Answer

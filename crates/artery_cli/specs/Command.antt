@@ -1,7 +1,7 @@
 -- The commands, and the words that name them.
 use Rattle.std.specs.Prelude.{ℕ, ◌&&◌, if◌then◌else◌, List, [], ◌∷◌, codes, bytes_eq, Option, None, Some, option_map, Bool, true, false}
 use Rattle.std.specs.Result.{result_ok}
-use Rattle.artery_base.specs.Reading.{word_of}
+use Rattle.artery_text.specs.Reading.{word_of}
 use Rattle.artery_cli.specs.declared.command.Command.{Command}
 use Rattle.artery_cli.specs.declared.command.Command.TheVariants.{Show, Whole}
 use Rattle.artery_cli.specs.declared.command.Task.TheVariants.{Replay, Make, CheckControl}

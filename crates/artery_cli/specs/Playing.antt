@@ -1,12 +1,12 @@
 -- What an event of a script does to a world that plays it, and to the sink.
 use Rattle.std.specs.Prelude.{◌≡◌, ℕ, List, ◌++◌, Option, None, Some, Ok, Err}
 use Rattle.std.specs.Io.KnownBytes.{Appends, Keeps}
-use Rattle.artery_base.specs.Written.{TakesFront}
+use Rattle.artery_io.specs.Written.{TakesFront}
 use Rattle.artery_cli.specs.declared.stop.Stop.{Stop}
 use Rattle.artery_cli.specs.declared.stop.Stop.TheVariants as stops
-use Rattle.artery_cli.specs.Leaving.{IsFrontOf}
-use Rattle.artery_script.specs.declared.event.Event.{Event}
-use Rattle.artery_script.specs.declared.script.ScriptLine.{ScriptLine}
+use Rattle.artery_base.specs.Words.{IsPrefix}
+use Rattle.artery_early.specs.declared.event.Event.{Event}
+use Rattle.artery_early.specs.declared.script.ScriptLine.{ScriptLine}
 use Rattle.artery_world.specs.declared.fault.WorldFault.{WorldFault}
 use Rattle.artery_world.specs.declared.line.Line.{Line}
 use Rattle.artery_world.specs.Replay.{run}
@@ -51,13 +51,13 @@ pub record PlayedTo (script : List ScriptLine) (stop : Option (ℕ × WorldFault
 -- the first lines of the journal of a script were written
 pub record PlayedPart (script : List ScriptLine) (old new : Option (List ℕ)) : Type 0 where
   pub lines : List Line
-  pub is_front : IsFrontOf lines (run script).world.journal
+  pub is_front : IsPrefix lines (run script).world.journal
   pub written : Appends old new (journal_text lines)
 
 -- the sink failed as the journal of a script was written: it took a front of its first lines
 pub record PlayedCut (script : List ScriptLine) (old new : Option (List ℕ)) : Type 0 where
   pub lines : List Line
-  pub is_front : IsFrontOf lines (run script).world.journal
+  pub is_front : IsPrefix lines (run script).world.journal
   pub taken : TakesFront old new (journal_text lines)
 
 -- a script that was not played to its end

@@ -1,7 +1,7 @@
 -- What `show` does with a piece of a connection, and at its end.
 use Rattle.std.specs.Prelude.{◌≡◌, ℕ, List, ◌++◌, Option, if◌then◌else◌}
 use Rattle.std.specs.Io.KnownBytes.{Appends, Keeps}
-use Rattle.artery_base.specs.Written.{TakesFront}
+use Rattle.artery_io.specs.Written.{TakesFront}
 use Rattle.artery_capture.specs.Captured.{KeptCapture, Shows}
 use Rattle.artery_capture.specs.Shown.{front_lines, last_line, has_fault}
 use Rattle.artery_cli.specs.declared.stop.Stop.{Stop}

@@ -1,5 +1,5 @@
 ghost use Rattle.std.specs.Prelude.{◌≡◌, ◌≤◌, IfOk, IfErr, IsErrOf, Result, Ok, Err};
-ghost use Rattle.artery_base.specs.Faults.{Rose};
+ghost use Rattle.artery_io.specs.Faults.{Rose};
 ghost use Rattle.artery_cli.specs.Answers.{Answers, check_answer, checked, payload_in, payload_of};
 ghost use Rattle.artery_cli.specs.Checking.{ReadsPayload, control_memory};
 ghost use Rattle.artery_cli.specs.Leaving.{WritingStops};
@@ -10,10 +10,12 @@ ghost use Rattle.artery_lines.specs.Lines.{lines_of};
 use crate::refusal::{Refusal, refuse};
 use crate::stop::Stop;
 use crate::telling::tell;
-use artery_base::{Bytes, NoMemory, Sink, WordFault, read_hex};
+use artery_base::{Bytes, NoMemory};
 use artery_capture::{print_control, print_control_fault};
 use artery_control::{Control, ControlFault, read_control};
+use artery_io::Sink;
 use artery_lines::{TextLines, has_few_lines};
+use artery_text::{WordFault, read_hex};
 use std::alloc::Global;
 
 /// Why no payload was read.

@@ -1,7 +1,8 @@
 ghost use Rattle.std.specs.Prelude.{◌≡◌, IfOk};
 ghost use Rattle.artery_cli.specs.Command.{command_named, check_named, command_of};
 
-use artery_base::{Bytes, NoMemory, Text, WordFault, read_word};
+use artery_base::{Bytes, NoMemory, Text};
+use artery_text::{WordFault, read_word};
 use std::alloc::Global;
 
 /// What is done with an input that was read to its end.

@@ -3,7 +3,8 @@ ghost use Rattle.std.specs.Prelude.{◌≡◌, ◌++◌, codes, decimal, OnOk, I
 ghost use Rattle.artery_cli.specs.Answers.{limit_word, stop_status, stop_text, why_word};
 ghost use Rattle.artery_world.specs.declared.fault.WorldFault.TheVariants.{NoMemory as without_memory};
 
-use artery_base::{Bytes, NoMemory, print_number};
+use artery_base::{Bytes, NoMemory};
+use artery_text::print_number;
 use artery_world::{Why, WorldFault, WorldLimit};
 use std::alloc::Global;
 

@@ -1,12 +1,13 @@
 ghost use Rattle.std.specs.Prelude.{ℕ, List, ◌+◌, ◌<◌, length, vec_len, IfOk, IfSome, IsErrOf};
 ghost use Rattle.std.specs.Io.KnownBytes.{Consumes};
-ghost use Rattle.artery_base.specs.Faults.{Rose};
-ghost use Rattle.artery_cli.specs.Reading.{Gathers, IsWithin, ReadsAtMost};
-ghost use Rattle.artery_cli.specs.declared.input.TheConstants.{MOST_BYTES};
+ghost use Rattle.artery_io.specs.Faults.{Rose};
+ghost use Rattle.artery_cli.specs.Reading.{Gathers, IsWithin, ReadsAll, ReadsAtMost};
+ghost use Rattle.artery_cli.specs.Limits.{most_bytes};
 ghost use Rattle.artery_cli.specs.declared.stop.Stop.TheVariants as stops;
 
 use crate::stop::Stop;
-use artery_base::{Bytes, Failed, NoMemory, Source};
+use artery_base::{Bytes, NoMemory};
+use artery_io::{Failed, Source};
 use std::alloc::Global;
 
 /// The most bytes of an input that is read whole.
@@ -22,11 +23,13 @@ pub enum Gathered {
 }
 
 /// Reads all that is left, or one byte more than `MOST_BYTES`.
+#[tactic(auto, using(crate::proofs::Gathering::read_to_end, crate::proofs::Gathering::read_past_limit))]
 pub fn gather<S: Source>(alloc: Global, input: &mut S, buffer: &mut [u8]) -> Result<Gathered, Stop>
     requires { 0 < length buffer.old }
     ensures whole { IfOk result (λ gathered. IfSome (S.left input.old) (λ text. Gathers gathered text)) }
     ensures within { IfOk result IsWithin }
-    ensures bounded { ReadsAtMost (MOST_BYTES + 1) (S.left input.old) (S.left input.new) }
+    ensures ended { IfOk result (λ _. ReadsAll (S.left input.old) (S.left input.new)) }
+    ensures bounded { ReadsAtMost (most_bytes + 1) (S.left input.old) (S.left input.new) }
     ensures read { IsErrOf result stops.Read → Rose (S.faults input.old) (S.faults input.new) }
     ensures seen { IsErrOf result stops.Read → (seen : List ℕ) × Consumes (S.left input.old) (S.left input.new) seen }
     ensures other { IsErrOf result stops.Write → ⊥ }

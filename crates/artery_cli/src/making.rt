@@ -1,5 +1,5 @@
 ghost use Rattle.std.specs.Prelude.{◌≡◌, ◌≤◌, IfOk, IfErr, IsErrOf};
-ghost use Rattle.artery_base.specs.Faults.{Rose};
+ghost use Rattle.artery_io.specs.Faults.{Rose};
 ghost use Rattle.artery_making.specs.Made.{stream_made};
 ghost use Rattle.artery_cli.specs.Answers.{Answers, made_answer};
 ghost use Rattle.artery_cli.specs.Leaving.{WritingStops};
@@ -8,7 +8,7 @@ ghost use Rattle.artery_cli.specs.declared.stop.Stop.TheVariants as stops;
 use crate::refusal::{Refusal, refuse};
 use crate::stop::Stop;
 use crate::telling::tell;
-use artery_base::Sink;
+use artery_io::Sink;
 use artery_making::{MakeFault, make_stream};
 use std::alloc::Global;
 

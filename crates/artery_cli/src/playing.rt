@@ -1,6 +1,6 @@
 ghost use Rattle.std.specs.Prelude.{◌≡◌, ℕ, ◌≤◌, None, Some, Ok, IfOk, IfSome, OnOk, IfErr, IsErrOf};
 ghost use Rattle.std.specs.Io.KnownBytes.{Appends};
-ghost use Rattle.artery_base.specs.Faults.{Rose};
+ghost use Rattle.artery_io.specs.Faults.{Rose};
 ghost use Rattle.artery_cli.specs.Leaving.{WritingStops};
 ghost use Rattle.artery_cli.specs.Playing.{PlayedTo, Plays, PlayStops, StopsAt};
 ghost use Rattle.artery_cli.specs.declared.stop.Stop.TheVariants as stops;
@@ -9,8 +9,9 @@ ghost use Rattle.artery_world.specs.declared.fault.WorldFault.TheVariants.{NoMem
 
 use crate::stop::Stop;
 use crate::telling::put;
-use artery_base::{Bytes, Sink};
-use artery_script::{Event, Script, copy_of_event};
+use artery_base::Bytes;
+use artery_early::{Event, Script, copy_of_event};
+use artery_io::Sink;
 use artery_world::{Lines, World, WorldFault, journal_goes_on, print_lines};
 use std::alloc::Global;
 

@@ -1,5 +1,5 @@
 ghost use Rattle.std.specs.Prelude.{◌≡◌, ◌≤◌, IfOk, IfErr, IsErrOf};
-ghost use Rattle.artery_base.specs.Faults.{Rose};
+ghost use Rattle.artery_io.specs.Faults.{Rose};
 ghost use Rattle.artery_cli.specs.Answers.{Answers, refusal_answer};
 ghost use Rattle.artery_cli.specs.Leaving.{WritingStops};
 ghost use Rattle.artery_cli.specs.declared.stop.Stop.TheVariants as stops;
@@ -7,7 +7,7 @@ ghost use Rattle.artery_cli.specs.declared.stop.Stop.TheVariants as stops;
 use crate::fault_text::bad_line;
 use crate::stop::Stop;
 use crate::telling::tell;
-use artery_base::Sink;
+use artery_io::Sink;
 use std::alloc::Global;
 
 /// Why an input is refused before its command is done.

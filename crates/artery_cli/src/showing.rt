@@ -1,20 +1,21 @@
 ghost use Rattle.std.specs.Prelude.{◌≡◌, ℕ, List, [], ◌+◌, ◌≤◌, ◌<◌, ◌++◌, length, Some, OnOk, IfOk, IfErr, IfSome, IsErrOf};
-ghost use Rattle.artery_base.specs.Faults.{Rose};
+ghost use Rattle.artery_io.specs.Faults.{Rose};
 ghost use Rattle.artery_capture.specs.Captured.{Shows};
 ghost use Rattle.artery_capture.specs.Shown.{last_line};
 ghost use Rattle.artery_cli.specs.Answers.{Answers, show_answer, capture_answer};
 ghost use Rattle.artery_cli.specs.Leaving.{Leaves, LeavesRead, WritingStops};
-ghost use Rattle.artery_cli.specs.Reading.{ReadsAtMost};
+ghost use Rattle.artery_cli.specs.Reading.{ReadsAll, ReadsAtMost};
 ghost use Rattle.artery_cli.specs.Showing.{WritesLines, StopsInPiece, Ends};
 ghost use Rattle.artery_cli.specs.declared.command.Command.TheVariants.{Show};
-ghost use Rattle.artery_cli.specs.declared.input.TheConstants.{MOST_BYTES};
+ghost use Rattle.artery_cli.specs.Limits.{most_bytes};
 ghost use Rattle.artery_cli.specs.declared.stop.Stop.TheVariants as stops;
 
 use crate::input::MOST_BYTES;
 use crate::stop::Stop;
 use crate::telling::{put, tell};
-use artery_base::{Bytes, Failed, Sink, Source};
-use artery_capture::Capture;
+use artery_base::Bytes;
+use artery_capture::{Capture, nothing_told};
+use artery_io::{Failed, Sink, Source};
 use std::alloc::Global;
 
 /// The most bytes of a piece.
@@ -42,8 +43,8 @@ fn show_piece<K: Sink>(
 
 /// Writes the last line, and tells whether the stream has a fault.
 fn show_end<K: Sink>(capture: &Capture, lines: &mut Bytes, output: &mut K) -> Result<u8, Stop>
-    ensures ended { IfOk result (λ status. (fed : List ℕ) → Shows capture.now fed → length fed ≤ MOST_BYTES → Ends status fed (K.held output.old) (K.held output.new)) }
-    ensures left { IfErr result (λ stop. (fed : List ℕ) → Shows capture.now fed → length fed ≤ MOST_BYTES → WritingStops stop (last_line fed) (K.held output.old) (K.held output.new)) }
+    ensures ended { IfOk result (λ status. (fed : List ℕ) → Shows capture.now fed → length fed ≤ most_bytes → Ends status fed (K.held output.old) (K.held output.new)) }
+    ensures left { IfErr result (λ stop. (fed : List ℕ) → Shows capture.now fed → length fed ≤ most_bytes → WritingStops stop (last_line fed) (K.held output.old) (K.held output.new)) }
     ensures plain { IfOk result (λ status. status ≤ 1) }
     ensures later { K.faults output.old ≤ K.faults output.new }
     ensures write { IsErrOf result stops.Write → Rose (K.faults output.old) (K.faults output.new) }
@@ -55,7 +56,7 @@ fn show_end<K: Sink>(capture: &Capture, lines: &mut Bytes, output: &mut K) -> Re
 
 /// Tells the bytes of a connection: the lines of each frame as it comes, and at the end the last
 /// line.
-#[tactic(auto, using(crate::proofs::ShownSoFar::shows_first, crate::proofs::ShownSoFar::shows_next, crate::proofs::ShownSoFar::shows_end, crate::proofs::ShownSoFar::shows_long, crate::proofs::ShownSoFar::shows_read, crate::proofs::ShownSoFar::shows_stopped, crate::proofs::ShownSoFar::shows_until, crate::proofs::ShownSoFar::shows_end_stopped, crate::proofs::ShownSoFar::shows_long_stopped, crate::proofs::Stopping::leaves_nothing_here))]
+#[tactic(auto, using(crate::proofs::ShownSoFar::shows_first, crate::proofs::ShownSoFar::shows_next, crate::proofs::ShownSoFar::shows_end, crate::proofs::ShownSoFar::shows_long, crate::proofs::ShownSoFar::shows_read, crate::proofs::ShownSoFar::shows_stopped, crate::proofs::ShownSoFar::shows_until, crate::proofs::ShownSoFar::shows_end_stopped, crate::proofs::ShownSoFar::shows_long_stopped, crate::proofs::ShownSoFar::ended_here, crate::proofs::ShownSoFar::ended_past_limit, crate::proofs::Stopping::leaves_nothing_here))]
 pub fn show<S: Source, K: Sink>(
     alloc: Global,
     input: &mut S,
@@ -65,13 +66,15 @@ pub fn show<S: Source, K: Sink>(
     requires { 0 < length buffer.old }
     ensures answers { IfOk result (λ status. IfSome (S.left input.old) (λ bytes. Answers (show_answer bytes) (K.held output.old) (K.held output.new) status)) }
     ensures left { IfErr result (λ stop. IfSome (S.left input.old) (λ bytes. Leaves stop (Some Show) bytes (K.held output.old) (K.held output.new))) }
-    ensures bounded { ReadsAtMost (MOST_BYTES + 1) (S.left input.old) (S.left input.new) }
+    ensures ended { IfOk result (λ _. ReadsAll (S.left input.old) (S.left input.new)) }
+    ensures bounded { ReadsAtMost (most_bytes + 1) (S.left input.old) (S.left input.new) }
     ensures read { IsErrOf result stops.Read → Rose (S.faults input.old) (S.faults input.new) }
     ensures seen { IsErrOf result stops.Read → LeavesRead (Some Show) [] (S.left input.old) (S.left input.new) (K.held output.old) (K.held output.new) }
     ensures plain { IfOk result (λ status. (status ≡ 3 → ⊥) × (status ≡ 4 → ⊥) × (status ≡ 9 → ⊥)) }
     ensures later { K.faults output.old ≤ K.faults output.new }
     ensures write { IsErrOf result stops.Write → Rose (K.faults output.old) (K.faults output.new) }
 {
+    nothing_told();
     let mut capture = Capture::with_room(alloc)?;
     let mut lines = Bytes::new(alloc);
     let mut seen = 0;

@@ -1,11 +1,11 @@
 ghost use Rattle.std.specs.Prelude.{◌≡◌, ◌≤◌, OnOk, IfOk, IfErr, IsErrOf};
 ghost use Rattle.std.specs.Io.KnownBytes.{Appends};
-ghost use Rattle.artery_base.specs.Faults.{Rose};
+ghost use Rattle.artery_io.specs.Faults.{Rose};
 ghost use Rattle.artery_cli.specs.Leaving.{WritingStops};
 ghost use Rattle.artery_cli.specs.declared.stop.Stop.TheVariants as stops;
 
 use crate::stop::Stop;
-use artery_base::{Failed, Sink, write_all};
+use artery_io::{Failed, Sink, write_all};
 
 /// Writes a text.
 pub fn put<K: Sink>(output: &mut K, text: &[u8]) -> Result<(), Stop>

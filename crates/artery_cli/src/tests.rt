@@ -1,7 +1,7 @@
 use crate::run;
-use artery_base::{
-    Bytes, MemSink, MemSource, NoMemory, Numbers, Text, print_number, read_hex, text_of,
-};
+use artery_base::{Bytes, NoMemory, Numbers, Text};
+use artery_io::{MemSink, MemSource};
+use artery_text::{print_number, read_hex, text_of};
 use std::alloc::Global;
 use std::test::Fail;
 
@@ -476,5 +476,83 @@ fn faults_of_the_outside_are_told(rt: HostRuntime) -> Result<(), Fail> {
         )?
     );
     assert!(rt; leaves(alloc, b"make", HANDSHAKE, &[], &[1], b"", 4)?);
+    Ok(())
+}
+
+/// So many copies of a line.
+fn copies(alloc: Global, line: &[u8], count: u64) -> Result<Bytes, NoMemory> {
+    let mut text = Bytes::new(alloc);
+    for _ in 0..count {
+        text.extend_from_slice(line)?;
+    }
+    Ok(text)
+}
+
+/// Whether a call answers so many copies of a line so.
+fn answers_copies(
+    alloc: Global,
+    call: &[u8],
+    first: &[u8],
+    line: &[u8],
+    count: u64,
+    written: &[u8],
+    status: u8,
+) -> Result<bool, Fail> {
+    let mut input = Bytes::from_slice(alloc, first)?;
+    let text = copies(alloc, line, count)?;
+    input.extend_from_slice(text.as_slice())?;
+    tells(alloc, call, input.as_slice(), written, status)
+}
+
+#[test]
+fn limits_are_told(rt: HostRuntime) -> Result<(), Fail> {
+    let alloc = rt.alloc();
+    let start = b"start akka://A@h:1 1\n".as_slice();
+    let started = b"akka://A@h:1#1 started\n".as_slice();
+    let send = b"at 1 send akka://B@h:1 5 x -\n".as_slice();
+    assert!(rt; answers_copies(alloc, b"replay", start, b"\n", 999_999, started, 0)?);
+    assert!(rt;
+        answers_copies(
+            alloc,
+            b"replay",
+            start,
+            b"\n",
+            1_000_000,
+            b"fault limit lines\n",
+            6
+        )?
+    );
+    assert!(rt;
+        answers_copies(
+            alloc,
+            b"make",
+            b"0",
+            b"0123456789abcdef0123456789abcdef",
+            2_097_152,
+            b"fault limit bytes\n",
+            6
+        )?
+    );
+    assert!(rt; answers_copies(alloc, b"replay", start, send, 20_000, started, 0)?);
+    assert!(rt;
+        answers_copies(
+            alloc,
+            b"replay",
+            start,
+            send,
+            20_001,
+            b"akka://A@h:1#1 started\nfault line 20002 limit kept\n",
+            6
+        )?
+    );
+    Ok(())
+}
+
+#[test]
+fn lines_are_written_as_events_are_done(rt: HostRuntime) -> Result<(), Fail> {
+    let alloc = rt.alloc();
+    let two = b"start akka://A@h:1 1\nstart akka://B@h:1 2\n".as_slice();
+    let first = b"akka://A@h:1#1 started\n".as_slice();
+    assert!(rt; leaves(alloc, b"replay", two, &[], &[2], first, 4)?);
     Ok(())
 }

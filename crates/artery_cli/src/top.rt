@@ -1,12 +1,12 @@
-ghost use Rattle.std.specs.Prelude.{◌≡◌, ℕ, [], ◌+◌, ◌≤◌, true, Some, IfOk, IfErr, IfSome, IsErrOf};
+ghost use Rattle.std.specs.Prelude.{◌≡◌, ℕ, [], ◌+◌, ◌≤◌, true, None, Some, IfOk, IfErr, IfSome, IsErrOf};
 ghost use Rattle.std.specs.Io.KnownBytes.{Appends};
-ghost use Rattle.artery_base.specs.Faults.{Rose};
-ghost use Rattle.artery_base.specs.Written.{TakesFront};
+ghost use Rattle.artery_io.specs.Faults.{Rose};
+ghost use Rattle.artery_io.specs.Written.{TakesFront};
 ghost use Rattle.artery_cli.specs.Answers.{Answers, IsDone, WritesLawfully, answer, answer_of, memory_fault, read_fault};
 ghost use Rattle.artery_cli.specs.Command.{command_of, is_replay};
-ghost use Rattle.artery_cli.specs.Leaving.{Leaves, LeavesFront, LeavesPart, LeavesRead};
-ghost use Rattle.artery_cli.specs.Reading.{ReadsAtMost};
-ghost use Rattle.artery_cli.specs.declared.input.TheConstants.{MOST_BYTES};
+ghost use Rattle.artery_cli.specs.Leaving.{Leaves, LeavesFront, LeavesPart, LeavesRead, WritesLawfulFront, WritesLawfulPart};
+ghost use Rattle.artery_cli.specs.Reading.{ReadsAll, ReadsAtMost};
+ghost use Rattle.artery_cli.specs.Limits.{most_bytes};
 ghost use Rattle.artery_cli.specs.declared.stop.Stop.TheVariants as stops;
 
 use crate::command::{Command, command_of};
@@ -15,7 +15,9 @@ use crate::showing::show;
 use crate::stop::Stop;
 use crate::task::do_task;
 use crate::telling::tell;
-use artery_base::{Failed, Sink, Source, Text, write_all};
+use artery_base::Text;
+use artery_capture::nothing_told;
+use artery_io::{Failed, Sink, Source, write_all};
 use artery_world::prefix_law;
 use std::alloc::Global;
 
@@ -30,12 +32,14 @@ fn obey<S: Source, K: Sink>(
     ensures answers { IfOk result (λ status. IfSome (S.left input.old) (λ text. Answers (answer_of (Some command.now) text) (K.held output.old) (K.held output.new) status)) }
     ensures left { IfErr result (λ stop. IfSome (S.left input.old) (λ text. Leaves stop (Some command.now) text (K.held output.old) (K.held output.new))) }
     ensures plain { IfOk result (λ status. (status ≡ 3 → ⊥) × (status ≡ 4 → ⊥) × (status ≡ 9 → ⊥)) }
-    ensures bounded { ReadsAtMost (MOST_BYTES + 1) (S.left input.old) (S.left input.new) }
+    ensures ended { IfOk result (λ _. ReadsAll (S.left input.old) (S.left input.new)) }
+    ensures bounded { ReadsAtMost (most_bytes + 1) (S.left input.old) (S.left input.new) }
     ensures read { IsErrOf result stops.Read → Rose (S.faults input.old) (S.faults input.new) }
     ensures seen { IsErrOf result stops.Read → LeavesRead (Some command.now) [] (S.left input.old) (S.left input.new) (K.held output.old) (K.held output.new) }
     ensures later { K.faults output.old ≤ K.faults output.new }
     ensures write { IsErrOf result stops.Write → Rose (K.faults output.old) (K.faults output.new) }
 {
+    nothing_told();
     let mut buffer = new_buffer(alloc)?;
     match command {
         Command::Show => show(alloc, input, output, &mut buffer),
@@ -54,12 +58,16 @@ fn command<S: Source, K: Sink>(
     ensures answers { IfOk result (λ status. IfSome (S.left input.old) (λ text. Answers (answer words.now text) (K.held output.old) (K.held output.new) status)) }
     ensures left { IfErr result (λ stop. IfSome (S.left input.old) (λ text. Leaves stop (command_of words.now) text (K.held output.old) (K.held output.new))) }
     ensures plain { IfOk result (λ status. (status ≡ 3 → ⊥) × (status ≡ 4 → ⊥) × (status ≡ 9 → ⊥)) }
-    ensures bounded { ReadsAtMost (MOST_BYTES + 1) (S.left input.old) (S.left input.new) }
+    ensures ended { IfOk result (λ _. IfSome (command_of words.now) (λ _. ReadsAll (S.left input.old) (S.left input.new))) }
+    ensures untouched { command_of words.now ≡ None → (input.new ≡ input.old) × (IsErrOf result stops.Read → ⊥) }
+    ensures words { command_of words.now ≡ None → IfOk result (λ status. Answers (answer_of None []) (K.held output.old) (K.held output.new) status) }
+    ensures bounded { ReadsAtMost (most_bytes + 1) (S.left input.old) (S.left input.new) }
     ensures read { IsErrOf result stops.Read → Rose (S.faults input.old) (S.faults input.new) }
     ensures seen { IsErrOf result stops.Read → LeavesRead (command_of words.now) [] (S.left input.old) (S.left input.new) (K.held output.old) (K.held output.new) }
     ensures later { K.faults output.old ≤ K.faults output.new }
     ensures write { IsErrOf result stops.Write → Rose (K.faults output.old) (K.faults output.new) }
 {
+    nothing_told();
     match command_of(alloc, words)? {
         None => tell(output, b"fault words\n", 2),
         Some(command) => obey(alloc, &command, input, output),
@@ -102,20 +110,28 @@ fn finish<K: Sink>(output: &mut K, text: &[u8], status: u8) -> u8
 /// What stands before the last line of status 3: of `show` the lines of the whole frames that were
 /// read, of the others nothing; of status 9: a part of the answer by whole lines. At status 4 the
 /// sink has taken a front of what would have been left. At most 67,108,865 bytes are read of the
-/// source.
+/// source. Where a command is done, an input of at most 67,108,864 bytes was read to its end; words
+/// that name no command leave the source as it was.
 ///
 /// The journal that `replay` writes is lawful: at each line, the messages that one incarnation took
-/// from another are a prefix of those that were sent to it before.
+/// from another are a prefix of those that were sent to it before. So is the front of it that stands
+/// at status 9 before `fault memory`, and that of whole lines which the sink took at status 4, behind
+/// which at most a part of one line stands.
 #[tactic(auto, using(crate::proofs::Stopping::told_read, crate::proofs::Stopping::told_part, crate::proofs::Stopping::cut_read, crate::proofs::Stopping::cut_part))]
 pub fn run<S: Source, K: Sink>(alloc: Global, words: &[Text], input: &mut S, output: &mut K) -> u8
     ensures answers { IsDone result → IfSome (S.left input.old) (λ text. Answers (answer words.now text) (K.held output.old) (K.held output.new) result) }
     ensures lawful { IsDone result → is_replay (command_of words.now) ≡ true → IfSome (S.left input.old) (λ text. WritesLawfully text (K.held output.old) (K.held output.new)) }
-    ensures bounded { ReadsAtMost (MOST_BYTES + 1) (S.left input.old) (S.left input.new) }
+    ensures ended { IsDone result → IfSome (command_of words.now) (λ _. ReadsAll (S.left input.old) (S.left input.new)) }
+    ensures untouched { command_of words.now ≡ None → (input.new ≡ input.old) × (result ≡ 3 → ⊥) }
+    ensures words { command_of words.now ≡ None → IsDone result → Answers (answer_of None []) (K.held output.old) (K.held output.new) result }
+    ensures bounded { ReadsAtMost (most_bytes + 1) (S.left input.old) (S.left input.new) }
     ensures read { result ≡ 3 → Rose (S.faults input.old) (S.faults input.new) }
     ensures told { result ≡ 3 → LeavesRead (command_of words.now) read_fault (S.left input.old) (S.left input.new) (K.held output.old) (K.held output.new) }
     ensures write { result ≡ 4 → Rose (K.faults output.old) (K.faults output.new) }
     ensures taken { result ≡ 4 → IfSome (S.left input.old) (λ text. LeavesFront (command_of words.now) text (K.held output.old) (K.held output.new)) }
+    ensures lawful_front { result ≡ 4 → is_replay (command_of words.now) ≡ true → IfSome (S.left input.old) (λ text. WritesLawfulFront text (K.held output.old) (K.held output.new)) }
     ensures memory { result ≡ 9 → IfSome (S.left input.old) (λ text. LeavesPart (command_of words.now) memory_fault text (K.held output.old) (K.held output.new)) }
+    ensures lawful_part { result ≡ 9 → is_replay (command_of words.now) ≡ true → IfSome (S.left input.old) (λ text. WritesLawfulPart text (K.held output.old) (K.held output.new)) }
 {
     prefix_law();
     match command(alloc, words, input, output) {

@@ -4,7 +4,7 @@ use Rattle.std.specs.Prelude.{◌&&◌, ℤ, pos, negsuc, FitsSigned}
 use Rattle.std.specs.Int.{w32, w64, cast_signed, cast_unsigned}
 use Rattle.std.proofs.lemmas.Int.{to_z-of_z}
 use Rattle.artery_base.specs.declared.message.SysMsg.{SysMsg}
-use Rattle.std.specs.Option.{option_or, unwrap_or}
+use Rattle.std.specs.Option.{unwrap_or}
 use Rattle.std.specs.List.{AllByRecursion, list_all, filter_map, flat_map, cons_option}
 use Rattle.std.proofs.lemmas.Bool.{le-leb, eq-eqb, and_from}
 use Rattle.std.proofs.lemmas.List.{append-nil}
@@ -14,40 +14,42 @@ use Rattle.artery_base.specs.declared.address.UniqueAddress.{UniqueAddress}
 use Rattle.artery_wire.specs.declared.fault.WireFault.{WireFault}
 use Rattle.artery_wire.specs.Record.{FieldOf}
 use Rattle.artery_wire.specs.Writing.{uint_field, bytes_field, record_bytes}
-use Rattle.artery_wire.specs.Laws.{WrittenIsRead}
+use Rattle.artery_wire.specs.Laws.{WrittenIsRead, VarintIsWritten, VarintIsShortest}
 use Rattle.artery_control.specs.declared.control.Control.{Control}
 use Rattle.artery_control.specs.declared.control.Control.TheVariants as controls
 use Rattle.artery_control.specs.declared.fault.ControlFault.{ControlFault}
 use Rattle.artery_control.specs.declared.path.Path.{Path}
 use Rattle.artery_control.specs.declared.path.Path.TheVariants as paths
-use Rattle.artery_control.specs.Outcome.{to_field, ◌>>=◌, each_of}
+use Rattle.artery_base.specs.Words.{◌>>=◌}
+use Rattle.artery_base.specs.Valid.{IsAddress, IsUniqueAddress}
+use Rattle.artery_control.specs.Outcome.{to_field, each_of}
 use Rattle.artery_control.specs.Picking.{fields_in, varint_in, bytes_in, last_picked, last_number, last_payload, well_formed, sound, packed_sound, where_present, each_payload, joined, embedded}
 use Rattle.artery_control.specs.Parts.{is_part, is_key}
-use Rattle.artery_control.specs.Message.{number_at, ranged_at, part_at, address_in, address_at, unique_in, unique_at, version_of, agreeing, sequence_at, table_ack_in, counted_in, quarantined_in, request_in, answer_in, refs_ack_in, manifests_ack_in, refs_table_in, manifests_table_in, numbered_in, keys_at, is_value, repeated_in, values_at, table_in, message_in, is_letter, message_of}
-use Rattle.artery_control.specs.Payload.{optional_field, present_field, address_fields, address_bytes, unique_fields, unique_bytes, unique_field, table_fields, table_ack_fields, numbered_fields, control_fields, payload_of}
-use Rattle.artery_control.specs.RoundTrip.{AreWritable, IsAddress, IsUnique, IsVersion, IsTable, WrittenIsReadAgain}
+use Rattle.artery_control.specs.Message.{number_at, ranged_at, part_at, address_in, address_at, unique_in, unique_at, agreeing, sequence_at, table_ack_in, counted_in, quarantined_in, request_in, answer_in, refs_ack_in, manifests_ack_in, refs_table_in, manifests_table_in, numbered_in, keys_at, is_value, repeated_in, values_at, table_in, message_in, is_letter, message_of}
+use Rattle.artery_control.specs.Payload.{optional_field, present_field, address_fields, address_bytes, unique_fields, unique_bytes, unique_field, table_fields, table_ack_fields, numbered_fields, control_fields, payload_of, letter_of}
+use Rattle.artery_control.specs.Belonging.{NonePicked}
+use Rattle.artery_control.specs.Valid.{IsVersion, IsTable, IsValid}
+use Rattle.artery_control.specs.RoundTrip.{WrittenIsReadAgain}
+use Rattle.artery_control.proofs.Lengths.{Varints}
+use Rattle.artery_control.proofs.Writable.{AreWritable, address_writable, unique_writable, writable}
+use Rattle.artery_control.proofs.Told.{part_from, agreeing_from, version_small, keys_pass, values_pass}
+use Rattle.artery_control.proofs.Picks.{last_none, last_at, none_then}
+
+-- what is known of records
+record Laws : Type 0 where
+  pub read : WrittenIsRead
+  pub varints : Varints
 
 -- ---- the fields of a record that was written
 
-fields_again : WrittenIsRead → (fs : List FieldOf) → AreWritable fs → fields_in (record_bytes fs) ≡ fs
-fields_again w fs fits = ap (λ (r : List FieldOf × Option WireFault). r.0) (w fs fits)
+fields_again : Laws → (fs : List FieldOf) → AreWritable fs → fields_in (record_bytes fs) ≡ fs
+fields_again w fs fits = ap (λ (r : List FieldOf × Option WireFault). r.0) (w.read fs fits)
 
-sound_again : WrittenIsRead → (path : Path) (fs : List FieldOf) → AreWritable fs → sound path (record_bytes fs) ≡ Ok tt
+sound_again : Laws → (path : Path) (fs : List FieldOf) → AreWritable fs → sound path (record_bytes fs) ≡ Ok tt
 unfolding sound
-sound_again w path fs fits = ap (λ (r : List FieldOf × Option WireFault). well_formed path r.1) (w fs fits)
+sound_again w path fs fits = ap (λ (r : List FieldOf × Option WireFault). well_formed path r.1) (w.read fs fits)
 
 -- ---- what is picked
-
-abbrev NonePicked : {X : Type 0} → (FieldOf → Option X) → List FieldOf → Type 0
-NonePicked pick fs = AllByRecursion (λ f. pick f ≡ None) fs
-
-last_none : {X : Type 0} (pick : FieldOf → Option X) (fs : List FieldOf) → NonePicked pick fs → last_picked pick fs ≡ None
-last_none pick [] none = refl
-last_none pick (f ∷ fs) none = ap (λ o. option_or o (pick f)) (last_none pick fs none.1) ∙ none.0
-
-last_at : {X : Type 0} (pick : FieldOf → Option X) (before : List FieldOf) (f : FieldOf) (after : List FieldOf) (x : X) → pick f ≡ Some x → NonePicked pick after → last_picked pick (before ++ f ∷ after) ≡ Some x
-last_at pick [] f after x here none = ap (λ o. option_or o (pick f)) (last_none pick after none) ∙ here
-last_at pick (b ∷ bs) f after x here none = ap (λ o. option_or o (pick b)) (last_at pick bs f after x here none)
 
 each_none : (test : List ℕ → Result (Unit {0}) ControlFault) (k : ℕ) (fs : List FieldOf) → NonePicked (bytes_in k) fs → each_payload test k fs ≡ Ok tt
 unfolding each_payload
@@ -116,43 +118,43 @@ part_again path k bytes text e fine = rw (e, fine) refl
 
 -- ---- addresses
 
-address_in_again : WrittenIsRead → (path : Path) (a : Address) → IsAddress a → address_in path (address_bytes a) ≡ Ok a
+address_in_again : Laws → (path : Path) (a : Address) → IsAddress a → address_in path (address_bytes a) ≡ Ok a
 unfolding address_in address_bytes
 address_in_again w path a is =
     let bytes : List ℕ = record_bytes (address_fields a) in
-    let fields : fields_in bytes ≡ address_fields a = fields_again w (address_fields a) is.writable in
-    let protocol : part_at path 1 bytes ≡ Ok a.protocol = part_again path 1 bytes a.protocol (ap (last_picked (bytes_in 1)) fields) is.protocol in
-    let system : part_at path 2 bytes ≡ Ok a.system = part_again path 2 bytes a.system (ap (last_picked (bytes_in 2)) fields) is.system in
-    let host : part_at path 3 bytes ≡ Ok a.host = part_again path 3 bytes a.host (ap (last_picked (bytes_in 3)) fields) is.host in
-    let port : ranged_at path 4 1 65535 bytes ≡ Ok a.port = ranged_again path 4 1 65535 bytes a.port (ap (last_picked (varint_in 4)) fields) is.least is.most (omega arith) in
+    let fields : fields_in bytes ≡ address_fields a = fields_again w (address_fields a) (address_writable a is) in
+    let protocol : part_at path 1 bytes ≡ Ok a.protocol = part_again path 1 bytes a.protocol (ap (last_picked (bytes_in 1)) fields) (part_from a.protocol is.protocol) in
+    let system : part_at path 2 bytes ≡ Ok a.system = part_again path 2 bytes a.system (ap (last_picked (bytes_in 2)) fields) (part_from a.system is.system) in
+    let host : part_at path 3 bytes ≡ Ok a.host = part_again path 3 bytes a.host (ap (last_picked (bytes_in 3)) fields) (part_from a.host is.host) in
+    let port : ranged_at path 4 1 65535 bytes ≡ Ok a.port = ranged_again path 4 1 65535 bytes a.port (ap (last_picked (varint_in 4)) fields) is.port.0 is.port.1 (omega arith) in
     rw (protocol, system, host, port) refl
 
-address_again : WrittenIsRead → (path : Path) (k : ℕ) (bytes : List ℕ) (a : Address) → StandsOnce k bytes (address_bytes a) → IsAddress a → address_at path k bytes ≡ Ok a
+address_again : Laws → (path : Path) (k : ℕ) (bytes : List ℕ) (a : Address) → StandsOnce k bytes (address_bytes a) → IsAddress a → address_at path k bytes ≡ Ok a
 unfolding address_at address_bytes
 address_again w path k bytes a s is =
-    ap (λ (r : Result (List ℕ) ControlFault). r >>= address_in (to_field path k)) (embedded_again path k bytes (address_bytes a) s (sound_again w (to_field path k) (address_fields a) is.writable))
+    ap (λ (r : Result (List ℕ) ControlFault). r >>= address_in (to_field path k)) (embedded_again path k bytes (address_bytes a) s (sound_again w (to_field path k) (address_fields a) (address_writable a is)))
     ∙ address_in_again w (to_field path k) a is
 
-unique_in_again : WrittenIsRead → (path : Path) (u : UniqueAddress) → IsUnique u → unique_in path (unique_bytes u) ≡ Ok u
+unique_in_again : Laws → (path : Path) (u : UniqueAddress) → IsUniqueAddress u → unique_in path (unique_bytes u) ≡ Ok u
 unfolding unique_in unique_bytes
 unique_in_again w path u is =
     let bytes : List ℕ = record_bytes (unique_fields u) in
-    let fields : fields_in bytes ≡ unique_fields u = fields_again w (unique_fields u) is.writable in
+    let fields : fields_in bytes ≡ unique_fields u = fields_again w (unique_fields u) (unique_writable w.varints u is) in
     let once : StandsOnce 1 bytes (address_bytes u.address) = record { before = []; after = uint_field 2 u.uid ∷ []; parts = fields; here = refl; none = tt; none_after = (refl, tt) } in
     let address : address_at path 1 bytes ≡ Ok u.address = address_again w path 1 bytes u.address once is.address in
     let uid : number_at path 2 bytes ≡ Ok u.uid = number_again path 2 bytes u.uid (ap (last_picked (varint_in 2)) fields) in
     rw (address, uid) refl
 
-unique_again : WrittenIsRead → (path : Path) (k : ℕ) (bytes : List ℕ) (u : UniqueAddress) → StandsOnce k bytes (unique_bytes u) → IsUnique u → unique_at path k bytes ≡ Ok u
+unique_again : Laws → (path : Path) (k : ℕ) (bytes : List ℕ) (u : UniqueAddress) → StandsOnce k bytes (unique_bytes u) → IsUniqueAddress u → unique_at path k bytes ≡ Ok u
 unfolding unique_at unique_bytes
 unique_again w path k bytes u s is =
-    ap (λ (r : Result (List ℕ) ControlFault). r >>= unique_in (to_field path k)) (embedded_again path k bytes (unique_bytes u) s (sound_again w (to_field path k) (unique_fields u) is.writable))
+    ap (λ (r : Result (List ℕ) ControlFault). r >>= unique_in (to_field path k)) (embedded_again path k bytes (unique_bytes u) s (sound_again w (to_field path k) (unique_fields u) (unique_writable w.varints u is)))
     ∙ unique_in_again w (to_field path k) u is
 
 -- ---- messages
 
 -- a message whose letter and fields are read is read
-starts : WrittenIsRead → (control : Control) (letter : ℕ) → is_letter letter ≡ true → AreWritable (control_fields control) → message_in letter (payload_of control) ≡ Ok control
+starts : Laws → (control : Control) (letter : ℕ) → is_letter letter ≡ true → AreWritable (control_fields control) → message_in letter (payload_of control) ≡ Ok control
     → message_of (letter ∷ []) (payload_of control) ≡ Ok control
 starts w control letter is fits e =
     rw is (ap (λ (r : Result (Unit {0}) ControlFault). r >>= λ _. message_in letter (payload_of control)) (sound_again w paths.Message (control_fields control) fits) ∙ e)
@@ -162,10 +164,6 @@ starts w control letter is fits e =
 cond_none : {X : Type 0} (b : Bool) (x : Option X) → x ≡ None → cond b x None ≡ None
 cond_none true x e = e
 cond_none false x e = refl
-
-none_then : {X : Type 0} (pick : FieldOf → Option X) (fs gs : List FieldOf) → NonePicked pick fs → NonePicked pick gs → NonePicked pick (fs ++ gs)
-none_then pick [] gs a b = b
-none_then pick (f ∷ fs) gs a b = (a.0, none_then pick fs gs a.1 b)
 
 -- an optional number is no payload
 none_bytes : (k j : ℕ) (o : Option ℕ) → NonePicked (bytes_in k) (optional_field j o)
@@ -186,21 +184,11 @@ last_optional_then : (j : ℕ) (before after : List FieldOf) (o : Option ℕ) �
 last_optional_then j before after None e none none' = last_none (varint_in j) (before ++ after) (none_then (varint_in j) before after none none')
 last_optional_then j before after (Some n) e none none' = last_at (varint_in j) before (uint_field j n) after n (ap (λ b. cond b (Some n) None) e) none'
 
-version_small : (version : ℕ) (sequence : Option ℕ) → IsVersion version sequence → version ≤ 255
-version_small version None is = is
-version_small version (Some s) is = is.0
-
-agreeing_again : (path : Path) (version : ℕ) (sequence : Option ℕ) → IsVersion version sequence → agreeing path version sequence ≡ Ok sequence
-agreeing_again path version None is = refl
-agreeing_again path version (Some s) is =
-    let test : (leb 1 s && eqb version (version_of s)) ≡ true = and_from _ _ (le-leb _ _ is.1) (eq-eqb _ _ is.2) in
-    rw test refl
-
 sequence_again : (path : Path) (k version : ℕ) (bytes : List ℕ) (sequence : Option ℕ) → last_number k bytes ≡ sequence → IsVersion version sequence → sequence_at path k version bytes ≡ Ok sequence
 unfolding sequence_at
-sequence_again path k version bytes sequence e is = ap (agreeing (to_field path k) version) e ∙ agreeing_again (to_field path k) version sequence is
+sequence_again path k version bytes sequence e is = ap (agreeing (to_field path k) version) e ∙ agreeing_from (to_field path k) version sequence is
 
-table_ack_again : WrittenIsRead → (from : UniqueAddress) (version : ℕ) (sequence : Option ℕ) → IsUnique from → IsVersion version sequence → AreWritable (table_ack_fields from version sequence)
+table_ack_again : Laws → (from : UniqueAddress) (version : ℕ) (sequence : Option ℕ) → IsUniqueAddress from → IsVersion version sequence → AreWritable (table_ack_fields from version sequence)
     → table_ack_in (record_bytes (table_ack_fields from version sequence)) ≡ Ok (record { from = from; version = version; sequence = sequence })
 unfolding table_ack_in
 table_ack_again w from version sequence is fine fits =
@@ -242,10 +230,6 @@ keys_all : (keys : List (List ℕ)) (after : List FieldOf) → NonePicked (bytes
 keys_all [] after none = keys_none after none
 keys_all (x ∷ xs) after none = ap (λ (t : List (List ℕ)). x ∷ t) (keys_all xs after none)
 
-keys_fine : (keys : List (List ℕ)) → AllByRecursion (λ text. is_key text ≡ true) keys → list_all is_key keys ≡ true
-keys_fine [] fine = refl
-keys_fine (x ∷ xs) fine = and_from _ _ fine.0 (keys_fine xs fine.1)
-
 abbrev NoneRepeated : List FieldOf → Type 0
 NoneRepeated fs = AllByRecursion (λ f. repeated_in 5 f ≡ []) fs
 
@@ -265,10 +249,6 @@ values_all (n ∷ ns) after fine none =
     let same : n % 2 ^ 32 ≡ n = omega (arith, small) in
     flat_map-cons (repeated_in 5) (uint_field 5 n) (map (uint_field 5) ns ++ after) ∙ rw same (ap (λ (t : List ℕ). n ∷ t) (values_all ns after fine.1 none))
 
-values_fine : (values : List ℕ) → AllByRecursion (λ n. n ≤ 65535) values → list_all is_value values ≡ true
-values_fine [] fine = refl
-values_fine (n ∷ ns) fine = and_from _ _ (le-leb _ _ fine.0) (values_fine ns fine.1)
-
 repeated_keys : (keys : List (List ℕ)) → NoneRepeated (map (bytes_field 4) keys)
 repeated_keys [] = tt
 repeated_keys (x ∷ xs) = (refl, repeated_keys xs)
@@ -277,7 +257,7 @@ repeated_optional : (o : Option ℕ) → NoneRepeated (optional_field 6 o)
 repeated_optional None = tt
 repeated_optional (Some n) = (refl, tt)
 
-table_again : WrittenIsRead → (from : UniqueAddress) (origin version : ℕ) (keys : List (List ℕ)) (values : List ℕ) (sequence : Option ℕ) → IsUnique from → IsVersion version sequence → IsTable keys values
+table_again : Laws → (from : UniqueAddress) (origin version : ℕ) (keys : List (List ℕ)) (values : List ℕ) (sequence : Option ℕ) → IsUniqueAddress from → IsVersion version sequence → IsTable keys values
     → AreWritable (table_fields from origin version keys values sequence)
     → table_in (record_bytes (table_fields from origin version keys values sequence)) ≡ Ok (record { from = from; origin_uid = origin; version = version; keys = keys; values = values; sequence = sequence })
 unfolding table_in keys_at values_at each_of
@@ -300,7 +280,7 @@ table_again w from origin version keys values sequence is fine table fits =
     ranged_again paths.Message 3 0 255 bytes version (ap (last_picked (varint_in 3)) fields ∙ last_at (varint_in 3) (unique_field 1 from ∷ uint_field 2 origin ∷ []) (uint_field 3 version) (names ++ (numbers ++ last)) version refl (no_number 3 refl refl)) (omega arith) (version_small version sequence fine) (omega arith) in
     let fourth : filter_map (bytes_in 4) (fields_in bytes) ≡ keys =
     ap (filter_map (bytes_in 4)) fields ∙ keys_all keys (numbers ++ last) (none_then (bytes_in 4) numbers last (none_values 4 values) (none_bytes 4 6 sequence)) in
-    let each_key : list_all is_key keys ≡ true = keys_fine keys table.each_key in
+    let each_key : list_all is_key keys ≡ true = keys_pass keys table.each_key in
     let packed : each_payload (packed_sound (paths.Field 5)) 5 (fields_in bytes) ≡ Ok tt =
     ap (each_payload (packed_sound (paths.Field 5)) 5) fields ∙ each_none (packed_sound (paths.Field 5)) 5 (head ++ (names ++ (numbers ++ last))) (refl, (refl, (refl, no_bytes 5 refl))) in
     let fifth : flat_map (repeated_in 5) (fields_in bytes) ≡ values =
@@ -308,7 +288,7 @@ table_again w from origin version keys values sequence is fine table fits =
     ∙ values_skip head (names ++ (numbers ++ last)) (refl, (refl, (refl, tt)))
     ∙ values_skip names (numbers ++ last) (repeated_keys keys)
     ∙ values_all values last table.each_value (repeated_optional sequence) in
-    let each_value : list_all is_value values ≡ true = values_fine values table.each_value in
+    let each_value : list_all is_value values ≡ true = values_pass values table.each_value in
     let grouped : head ++ (names ++ (numbers ++ last)) ≡ (head ++ (names ++ numbers)) ++ last = simp append_assoc in
     let sixth : last_number 6 bytes ≡ sequence =
     ap (last_picked (varint_in 6)) (fields ∙ grouped)
@@ -339,7 +319,7 @@ low_again (negsuc n) fits = let small : n < 2147483648 = fits.sfits in omega (ar
 int_again : (z : ℤ) → FitsSigned w32 z → cast_signed w32 (cast_unsigned w64 z % 2 ^ 32) ≡ z
 int_again z fits = ap (cast_signed w32) (low_again z fits) ∙ to_z-of_z w32 z fits
 
-numbered_again : WrittenIsRead → (n : ℕ) (message : SysMsg) (reply_to : UniqueAddress) → IsUnique reply_to → FitsSigned w32 message.serializer → AreWritable (numbered_fields n message reply_to)
+numbered_again : Laws → (n : ℕ) (message : SysMsg) (reply_to : UniqueAddress) → IsUniqueAddress reply_to → FitsSigned w32 message.serializer → AreWritable (numbered_fields n message reply_to)
     → numbered_in (record_bytes (numbered_fields n message reply_to)) ≡ Ok (controls.Numbered n message reply_to)
 unfolding numbered_in
 numbered_again w n message reply_to is int fits =
@@ -371,9 +351,9 @@ numbered_again w n message reply_to is int fits =
     let whole : cast_signed w32 (serializer % 2 ^ 32) ≡ message.serializer = int_again message.serializer int in
     rw (first, second, fourth, fifth, third, whole) refl
 
-pub message_again : WrittenIsRead → WrittenIsReadAgain
+again : Laws → (control : Control) → IsValid control → AreWritable (control_fields control) → message_of (letter_of control ∷ []) (payload_of control) ≡ Ok control
 unfolding message_in quarantined_in request_in answer_in refs_table_in refs_ack_in manifests_table_in manifests_ack_in counted_in
-message_again w (controls.Quarantined from to) is fits =
+again w (controls.Quarantined from to) is fits =
     let bytes : List ℕ = payload_of (controls.Quarantined from to) in
     let fields : fields_in bytes ≡ unique_field 1 from ∷ unique_field 2 to ∷ [] = fields_again w _ fits in
     let first : unique_at paths.Message 1 bytes ≡ Ok from =
@@ -381,17 +361,17 @@ message_again w (controls.Quarantined from to) is fits =
     let second : unique_at paths.Message 2 bytes ≡ Ok to =
     unique_again w paths.Message 2 bytes to (record { before = unique_field 1 from ∷ []; after = []; parts = fields; here = refl; none = (refl, tt); none_after = tt }) is.1 in
     starts w (controls.Quarantined from to) 97 refl fits (rw (first, second) refl)
-message_again w (controls.Terminating from) is fits =
+again w (controls.Terminating from) is fits =
     let bytes : List ℕ = payload_of (controls.Terminating from) in
     let first : unique_at paths.Message 1 bytes ≡ Ok from =
     unique_again w paths.Message 1 bytes from (record { before = []; after = []; parts = fields_again w _ fits; here = refl; none = tt; none_after = tt }) is in
     starts w (controls.Terminating from) 98 refl fits (rw first refl)
-message_again w (controls.TerminatingAck from) is fits =
+again w (controls.TerminatingAck from) is fits =
     let bytes : List ℕ = payload_of (controls.TerminatingAck from) in
     let first : unique_at paths.Message 1 bytes ≡ Ok from =
     unique_again w paths.Message 1 bytes from (record { before = []; after = []; parts = fields_again w _ fits; here = refl; none = tt; none_after = tt }) is in
     starts w (controls.TerminatingAck from) 99 refl fits (rw first refl)
-message_again w (controls.HandshakeReq from to nonce) is fits =
+again w (controls.HandshakeReq from to nonce) is fits =
     let bytes : List ℕ = payload_of (controls.HandshakeReq from to nonce) in
     let fields : fields_in bytes ≡ unique_field 1 from ∷ bytes_field 2 (address_bytes to) ∷ optional_field 15 nonce = fields_again w _ fits in
     let first : unique_at paths.Message 1 bytes ≡ Ok from =
@@ -401,7 +381,7 @@ message_again w (controls.HandshakeReq from to nonce) is fits =
     let last : last_number 15 bytes ≡ nonce =
     ap (last_picked (varint_in 15)) fields ∙ last_optional 15 (unique_field 1 from ∷ bytes_field 2 (address_bytes to) ∷ []) nonce refl (refl, (refl, tt)) in
     starts w (controls.HandshakeReq from to nonce) 100 refl fits (rw (first, second, last) refl)
-message_again w (controls.HandshakeRsp from for_uid nonce) is fits =
+again w (controls.HandshakeRsp from for_uid nonce) is fits =
     let bytes : List ℕ = payload_of (controls.HandshakeRsp from for_uid nonce) in
     let fields : fields_in bytes ≡ unique_field 1 from ∷ (optional_field 14 for_uid ++ optional_field 15 nonce) = fields_again w _ fits in
     let first : unique_at paths.Message 1 bytes ≡ Ok from =
@@ -412,39 +392,44 @@ message_again w (controls.HandshakeRsp from for_uid nonce) is fits =
       here = refl;
       none = tt;
       none_after = none_then (bytes_in 1) (optional_field 14 for_uid) (optional_field 15 nonce) (none_bytes 1 14 for_uid) (none_bytes 1 15 nonce);
-    }) is in
+    }) is.0 in
     let second : last_number 14 bytes ≡ for_uid =
     ap (last_picked (varint_in 14)) fields ∙ last_optional_then 14 (unique_field 1 from ∷ []) (optional_field 15 nonce) for_uid refl (refl, tt) (none_varint 14 15 nonce refl) in
     let last : last_number 15 bytes ≡ nonce =
     ap (last_picked (varint_in 15)) fields ∙ last_optional 15 (unique_field 1 from ∷ optional_field 14 for_uid) nonce refl (refl, none_varint 15 14 for_uid refl) in
     starts w (controls.HandshakeRsp from for_uid nonce) 101 refl fits (rw (first, second, last) refl)
-message_again w (controls.RefsTable from origin version keys values sequence) is fits =
-    starts w (controls.RefsTable from origin version keys values sequence) 102 refl fits (rw (table_again w from origin version keys values sequence is.0 is.1 is.2 fits) refl)
-message_again w (controls.RefsAck from version sequence) is fits =
+again w (controls.RefsTable from origin version keys values sequence) is fits =
+    starts w (controls.RefsTable from origin version keys values sequence) 102 refl fits (rw (table_again w from origin version keys values sequence is.0 is.2 is.3 fits) refl)
+again w (controls.RefsAck from version sequence) is fits =
     starts w (controls.RefsAck from version sequence) 103 refl fits (rw (table_ack_again w from version sequence is.0 is.1 fits) refl)
-message_again w (controls.ManifestsTable from origin version keys values sequence) is fits =
-    starts w (controls.ManifestsTable from origin version keys values sequence) 104 refl fits (rw (table_again w from origin version keys values sequence is.0 is.1 is.2 fits) refl)
-message_again w (controls.ManifestsAck from version sequence) is fits =
+again w (controls.ManifestsTable from origin version keys values sequence) is fits =
+    starts w (controls.ManifestsTable from origin version keys values sequence) 104 refl fits (rw (table_again w from origin version keys values sequence is.0 is.2 is.3 fits) refl)
+again w (controls.ManifestsAck from version sequence) is fits =
     starts w (controls.ManifestsAck from version sequence) 105 refl fits (rw (table_ack_again w from version sequence is.0 is.1 fits) refl)
-message_again w (controls.Numbered n message reply_to) is fits =
-    starts w (controls.Numbered n message reply_to) 106 refl fits (numbered_again w n message reply_to is.0 is.1 fits)
-message_again w (controls.Ack n from) is fits =
+again w (controls.Numbered n message reply_to) is fits =
+    starts w (controls.Numbered n message reply_to) 106 refl fits (numbered_again w n message reply_to is.2 is.1.serializer fits)
+again w (controls.Ack n from) is fits =
     let bytes : List ℕ = payload_of (controls.Ack n from) in
     let fields : fields_in bytes ≡ uint_field 1 n ∷ unique_field 2 from ∷ [] = fields_again w _ fits in
     let number : number_at paths.Message 1 bytes ≡ Ok n = number_again paths.Message 1 bytes n (ap (last_picked (varint_in 1)) fields) in
     let second : unique_at paths.Message 2 bytes ≡ Ok from =
-    unique_again w paths.Message 2 bytes from (record { before = uint_field 1 n ∷ []; after = []; parts = fields; here = refl; none = (refl, tt); none_after = tt }) is in
+    unique_again w paths.Message 2 bytes from (record { before = uint_field 1 n ∷ []; after = []; parts = fields; here = refl; none = (refl, tt); none_after = tt }) is.1 in
     starts w (controls.Ack n from) 107 refl fits (rw (number, second) refl)
-message_again w (controls.Nack n from) is fits =
+again w (controls.Nack n from) is fits =
     let bytes : List ℕ = payload_of (controls.Nack n from) in
     let fields : fields_in bytes ≡ uint_field 1 n ∷ unique_field 2 from ∷ [] = fields_again w _ fits in
     let number : number_at paths.Message 1 bytes ≡ Ok n = number_again paths.Message 1 bytes n (ap (last_picked (varint_in 1)) fields) in
     let second : unique_at paths.Message 2 bytes ≡ Ok from =
-    unique_again w paths.Message 2 bytes from (record { before = uint_field 1 n ∷ []; after = []; parts = fields; here = refl; none = (refl, tt); none_after = tt }) is in
+    unique_again w paths.Message 2 bytes from (record { before = uint_field 1 n ∷ []; after = []; parts = fields; here = refl; none = (refl, tt); none_after = tt }) is.1 in
     starts w (controls.Nack n from) 108 refl fits (rw (number, second) refl)
-message_again w controls.Heartbeat is fits = starts w controls.Heartbeat 109 refl fits refl
-message_again w (controls.HeartbeatRsp uid) is fits =
+again w controls.Heartbeat is fits = starts w controls.Heartbeat 109 refl fits refl
+again w (controls.HeartbeatRsp uid) is fits =
     let bytes : List ℕ = payload_of (controls.HeartbeatRsp uid) in
     let fields : fields_in bytes ≡ uint_field 1 uid ∷ [] = fields_again w _ fits in
     let number : number_at paths.Message 1 bytes ≡ Ok uid = number_again paths.Message 1 bytes uid (ap (last_picked (varint_in 1)) fields) in
     starts w (controls.HeartbeatRsp uid) 110 refl fits (rw number refl)
+
+pub message_again : WrittenIsRead → VarintIsWritten → VarintIsShortest → WrittenIsReadAgain
+message_again read written shortest control is =
+    let w : Laws = record { read = read; varints = record { written = written; shortest = shortest } } in
+    again w control is (writable w.varints control is)

@@ -5,7 +5,7 @@ use Rattle.std.specs.List.{list_all}
 use Rattle.std.specs.Str.{IsAscii}
 use Rattle.std.proofs.lemmas.Bool.{and_parts, or_cases, ltb-true, leb-true, eqb-true}
 use Rattle.std.specs.Int.{is_in_range}
-use Rattle.artery_base.specs.Spelling.{is_part_byte}
+use Rattle.artery_base.specs.Valid.{is_part_byte}
 use Rattle.artery_control.specs.Parts.{is_part, is_key}
 
 -- each byte that passes the test is below 128

@@ -10,7 +10,8 @@ use Rattle.artery_wire.specs.Record.{FieldOf}
 use Rattle.artery_control.specs.declared.fault.ControlFault.{ControlFault}
 use Rattle.artery_control.specs.declared.fault.ControlFault.TheVariants as faults
 use Rattle.artery_control.specs.declared.path.Path.{Path}
-use Rattle.artery_control.specs.Outcome.{each_of, appended, ◌>>=◌}
+use Rattle.artery_base.specs.Words.{◌>>=◌}
+use Rattle.artery_control.specs.Outcome.{each_of, appended}
 use Rattle.artery_control.specs.Picking.{bytes_in}
 use Rattle.artery_control.specs.Parts.{is_key}
 use Rattle.artery_control.specs.Message.{low32, is_value, repeated_in}

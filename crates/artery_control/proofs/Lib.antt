@@ -1,5 +1,13 @@
 pub mod Picks
+pub mod Steps
+pub mod Fits
+pub mod Merging
+pub mod Told
+pub mod Belongs
+pub mod Read
 pub mod Gathers
 pub mod Ascii
 pub mod Writes
+pub mod Lengths
+pub mod Writable
 pub mod Again

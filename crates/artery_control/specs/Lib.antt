@@ -1,6 +1,10 @@
 pub mod Outcome
 pub mod Picking
+pub mod Embedded
 pub mod Parts
 pub mod Message
 pub mod Payload
+pub mod Valid
+pub mod Belonging
+pub mod Lengths
 pub mod RoundTrip

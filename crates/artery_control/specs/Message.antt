@@ -17,7 +17,8 @@ use Rattle.artery_control.specs.declared.fault.ControlFault.{ControlFault}
 use Rattle.artery_control.specs.declared.fault.ControlFault.TheVariants as faults
 use Rattle.artery_control.specs.declared.path.Path.{Path}
 use Rattle.artery_control.specs.declared.path.Path.TheVariants as paths
-use Rattle.artery_control.specs.Outcome.{to_field, ◌>>=◌, each_of}
+use Rattle.artery_base.specs.Words.{◌>>=◌}
+use Rattle.artery_control.specs.Outcome.{to_field, each_of}
 use Rattle.artery_control.specs.Picking.{fields_in, bytes_in, last_number, last_payload, required, sound, packed_sound, each_payload, embedded}
 use Rattle.artery_control.specs.Parts.{is_part, is_key}
 

@@ -1,5 +1,5 @@
 -- What reading answers: a value, or the first fault.
-use Rattle.std.specs.Prelude.{◌≡◌, ℕ, Bool, List, ◌++◌, Result, Ok, Err, if◌then◌else◌}
+use Rattle.std.specs.Prelude.{ℕ, Bool, true, false, List, ◌++◌, Result, Ok, Err, if◌then◌else◌}
 use Rattle.std.specs.List.{list_all}
 use Rattle.artery_control.specs.declared.fault.ControlFault.{ControlFault}
 use Rattle.artery_control.specs.declared.fault.ControlFault.TheVariants as faults
@@ -13,12 +13,6 @@ to_field (paths.Field a) k = paths.Inner a k
 to_field (paths.Inner a b) k = paths.Innermost a b k
 to_field (paths.Innermost a b c) k = paths.Innermost a b c
 
-infixl 10 ◌>>=◌
--- what comes after a value is read, and the first fault is the answer
-abbrev pub ◌>>=◌ : {A B : Type 0} → Result A ControlFault → (A → Result B ControlFault) → Result B ControlFault
-(Ok x) >>= f = f x
-(Err e) >>= f = Err e
-
 -- the list, where each of it passes the test, else the fault
 unfoldable pub each_of : {X : Type 0} → (X → Bool) → ControlFault → List X → Result (List X) ControlFault
 each_of test fault xs = if list_all test xs then Ok xs else Err fault
@@ -28,12 +22,12 @@ abbrev pub appended : {X : Type 0} → List X → Result (List X) ControlFault �
 appended before (Ok xs) = Ok (before ++ xs)
 appended before (Err e) = Err e
 
--- what a function failed with is what reading fails with, want of memory aside
-abbrev pub Fails : {Y : Type 0} → ControlFault → Result Y ControlFault → Type 0
-Fails faults.NoMemory read = Unit {0}
-Fails e read = read ≡ Err e
+-- whether a fault is want of memory
+abbrev pub is_memory : ControlFault → Bool
+is_memory faults.NoMemory = true
+is_memory _ = false
 
--- what a function returned, seen by view, is what reading gives, want of memory aside
-abbrev pub Gives : {X Y : Type 0} → (X → Y) → Result X ControlFault → Result Y ControlFault → Type 0
-Gives view (Ok x) read = read ≡ Ok (view x)
-Gives view (Err e) read = Fails e read
+-- a result, its value seen by a view
+abbrev pub seen_by : {X Y : Type 0} → (X → Y) → Result X ControlFault → Result Y ControlFault
+seen_by view (Ok x) = Ok (view x)
+seen_by view (Err e) = Err e

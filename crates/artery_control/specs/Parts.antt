@@ -1,7 +1,7 @@
 -- The texts of an address, and the keys of a table.
 use Rattle.std.specs.Prelude.{ℕ, Bool, ◌&&◌, nat_le, nat_lt, List, length}
 use Rattle.std.specs.List.{list_all}
-use Rattle.artery_base.specs.Spelling.{is_part_byte}
+use Rattle.artery_base.specs.Valid.{is_part_byte}
 
 -- a part of an address: 1 to 255 such bytes
 unfoldable pub is_part : List ℕ → Bool

@@ -7,7 +7,10 @@ use Rattle.artery_wire.specs.Reading.{fields_of, numbers_of}
 use Rattle.artery_control.specs.declared.fault.ControlFault.{ControlFault}
 use Rattle.artery_control.specs.declared.fault.ControlFault.TheVariants as faults
 use Rattle.artery_control.specs.declared.path.Path.{Path}
-use Rattle.artery_control.specs.Outcome.{to_field, ◌>>=◌}
+use Rattle.artery_control.specs.declared.picking.Form.{Form}
+use Rattle.artery_control.specs.declared.picking.Form.TheVariants as forms
+use Rattle.artery_base.specs.Words.{◌>>=◌}
+use Rattle.artery_control.specs.Outcome.{to_field}
 
 -- the fields of a record, up to its first fault
 abbrev pub fields_in : List ℕ → List FieldOf
@@ -58,6 +61,11 @@ sound path bytes = well_formed path (fields_of bytes).1
 -- the bytes are a packed list of numbers
 unfoldable pub packed_sound : Path → List ℕ → Result (Unit {0}) ControlFault
 packed_sound path bytes = well_formed path (numbers_of bytes).1
+
+-- the bytes have this form
+abbrev pub sound_as : Form → Path → List ℕ → Result (Unit {0}) ControlFault
+sound_as forms.Record path = sound path
+sound_as forms.Packed path = packed_sound path
 
 -- a value that is there passes the test, and one that is absent passes any
 abbrev pub where_present : {X : Type 0} → (X → Result (Unit {0}) ControlFault) → Option X → Result (Unit {0}) ControlFault

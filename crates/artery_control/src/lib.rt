@@ -15,12 +15,13 @@ mod parts;
 mod path;
 mod picking;
 mod reading;
+mod record;
 mod table;
 mod writing;
 
 pub use control::Control;
 pub use fault::ControlFault;
-pub use laws::written_is_read_again;
+pub use laws::{belonging_is_read, payload_is_short, written_is_read_again};
 pub use message::read_control;
 pub use path::Path;
 pub use writing::{manifest_of, write_control};

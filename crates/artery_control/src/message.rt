@@ -1,10 +1,13 @@
 ghost use Rattle.std.specs.Prelude.{◌≡◌, IfOk};
 ghost use Rattle.std.specs.Option.{option_map};
-ghost use Rattle.artery_control.specs.Outcome.{Gives};
+ghost use Rattle.artery_base.specs.Words.{Gives};
+ghost use Rattle.artery_control.specs.Valid.{IsValid};
+ghost use Rattle.artery_control.specs.Outcome.{is_memory};
 ghost use Rattle.artery_control.specs.Message.{quarantined_in, terminating_in, terminating_ack_in, request_in, answer_in, refs_table_in, refs_ack_in, manifests_table_in, manifests_ack_in, system_message_of, numbered_in, ack_in, nack_in, heartbeat_answer_in, message_in, message_of};
 
 use crate::control::Control;
 use crate::fault::ControlFault;
+use crate::laws::belonging_is_read;
 use crate::path::Path;
 use crate::picking::{check_record, last_bytes, last_varint};
 use crate::reading::{TWO_TO_32, address, counted_message, number, table_ack_message, unique};
@@ -14,9 +17,23 @@ use std::alloc::Global;
 
 /// The control message of a manifest, one letter from `a` to `n`, and a payload; else the first fault:
 /// first the manifest, then the payload's own wire fault, then its fields in ascending order, an embedded
-/// message being read in this same way in its place, and last `Unequal`.
+/// message being read in this same way in its place, and last `Unequal`. What is read is valid.
+#[tactic(auto, using(crate::proofs::Read::valid_result))]
 pub fn read_control(alloc: Global, manifest: &[u8], bytes: &[u8]) -> Result<Control, ControlFault>
-    ensures { Gives (λ c. c) result (message_of manifest.now bytes.now) }
+    ensures read { Gives is_memory result (message_of manifest.now bytes.now) }
+    ensures valid { IfOk result IsValid }
+{
+    belonging_is_read();
+    message_of_manifest(alloc, manifest, bytes)
+}
+
+/// The control message of a manifest and a payload.
+fn message_of_manifest(
+    alloc: Global,
+    manifest: &[u8],
+    bytes: &[u8],
+) -> Result<Control, ControlFault>
+    ensures { Gives is_memory result (message_of manifest.now bytes.now) }
 {
     let [letter] = manifest else {
         return Err(ControlFault::UnknownManifest);
@@ -31,7 +48,7 @@ pub fn read_control(alloc: Global, manifest: &[u8], bytes: &[u8]) -> Result<Cont
 /// The message of this letter; `UnknownManifest` for any other byte.
 #[tactic(auto, unfolding(crate::specs::Message::message_in))]
 fn message(alloc: Global, letter: u8, bytes: &[u8]) -> Result<Control, ControlFault>
-    ensures { Gives (λ c. c) result (message_in letter bytes.now) }
+    ensures { Gives is_memory result (message_in letter bytes.now) }
 {
     match letter {
         b'a' => quarantined(alloc, bytes),
@@ -54,7 +71,7 @@ fn message(alloc: Global, letter: u8, bytes: &[u8]) -> Result<Control, ControlFa
 
 #[tactic(auto, unfolding(crate::specs::Message::quarantined_in))]
 fn quarantined(alloc: Global, bytes: &[u8]) -> Result<Control, ControlFault>
-    ensures { Gives (λ c. c) result (quarantined_in bytes.now) }
+    ensures { Gives is_memory result (quarantined_in bytes.now) }
 {
     let from = unique(alloc, Path::Message, 1, bytes)?;
     let to = unique(alloc, Path::Message, 2, bytes)?;
@@ -62,14 +79,14 @@ fn quarantined(alloc: Global, bytes: &[u8]) -> Result<Control, ControlFault>
 }
 
 fn terminating(alloc: Global, bytes: &[u8]) -> Result<Control, ControlFault>
-    ensures { Gives (λ c. c) result (terminating_in bytes.now) }
+    ensures { Gives is_memory result (terminating_in bytes.now) }
 {
     let from = unique(alloc, Path::Message, 1, bytes)?;
     Ok(Control::Terminating { from })
 }
 
 fn terminating_ack(alloc: Global, bytes: &[u8]) -> Result<Control, ControlFault>
-    ensures { Gives (λ c. c) result (terminating_ack_in bytes.now) }
+    ensures { Gives is_memory result (terminating_ack_in bytes.now) }
 {
     let from = unique(alloc, Path::Message, 1, bytes)?;
     Ok(Control::TerminatingAck { from })
@@ -77,7 +94,7 @@ fn terminating_ack(alloc: Global, bytes: &[u8]) -> Result<Control, ControlFault>
 
 #[tactic(auto, unfolding(crate::specs::Message::request_in))]
 fn handshake_request(alloc: Global, bytes: &[u8]) -> Result<Control, ControlFault>
-    ensures { Gives (λ c. c) result (request_in bytes.now) }
+    ensures { Gives is_memory result (request_in bytes.now) }
 {
     let from = unique(alloc, Path::Message, 1, bytes)?;
     let to = address(alloc, Path::Message, 2, bytes)?;
@@ -87,7 +104,7 @@ fn handshake_request(alloc: Global, bytes: &[u8]) -> Result<Control, ControlFaul
 
 #[tactic(auto, unfolding(crate::specs::Message::answer_in))]
 fn handshake_answer(alloc: Global, bytes: &[u8]) -> Result<Control, ControlFault>
-    ensures { Gives (λ c. c) result (answer_in bytes.now) }
+    ensures { Gives is_memory result (answer_in bytes.now) }
 {
     let from = unique(alloc, Path::Message, 1, bytes)?;
     let for_uid = last_varint(14, bytes);
@@ -101,7 +118,7 @@ fn handshake_answer(alloc: Global, bytes: &[u8]) -> Result<Control, ControlFault
 
 #[tactic(auto, unfolding(crate::specs::Message::refs_table_in))]
 fn refs_table(alloc: Global, bytes: &[u8]) -> Result<Control, ControlFault>
-    ensures { Gives (λ c. c) result (refs_table_in bytes.now) }
+    ensures { Gives is_memory result (refs_table_in bytes.now) }
 {
     let table = table_message(alloc, bytes)?;
     Ok(Control::RefsTable {
@@ -116,7 +133,7 @@ fn refs_table(alloc: Global, bytes: &[u8]) -> Result<Control, ControlFault>
 
 #[tactic(auto, unfolding(crate::specs::Message::manifests_table_in))]
 fn manifests_table(alloc: Global, bytes: &[u8]) -> Result<Control, ControlFault>
-    ensures { Gives (λ c. c) result (manifests_table_in bytes.now) }
+    ensures { Gives is_memory result (manifests_table_in bytes.now) }
 {
     let table = table_message(alloc, bytes)?;
     Ok(Control::ManifestsTable {
@@ -131,7 +148,7 @@ fn manifests_table(alloc: Global, bytes: &[u8]) -> Result<Control, ControlFault>
 
 #[tactic(auto, unfolding(crate::specs::Message::refs_ack_in))]
 fn refs_ack(alloc: Global, bytes: &[u8]) -> Result<Control, ControlFault>
-    ensures { Gives (λ c. c) result (refs_ack_in bytes.now) }
+    ensures { Gives is_memory result (refs_ack_in bytes.now) }
 {
     let ack = table_ack_message(alloc, bytes)?;
     Ok(Control::RefsAck {
@@ -143,7 +160,7 @@ fn refs_ack(alloc: Global, bytes: &[u8]) -> Result<Control, ControlFault>
 
 #[tactic(auto, unfolding(crate::specs::Message::manifests_ack_in))]
 fn manifests_ack(alloc: Global, bytes: &[u8]) -> Result<Control, ControlFault>
-    ensures { Gives (λ c. c) result (manifests_ack_in bytes.now) }
+    ensures { Gives is_memory result (manifests_ack_in bytes.now) }
 {
     let ack = table_ack_message(alloc, bytes)?;
     Ok(Control::ManifestsAck {
@@ -154,7 +171,7 @@ fn manifests_ack(alloc: Global, bytes: &[u8]) -> Result<Control, ControlFault>
 }
 
 fn ack(alloc: Global, bytes: &[u8]) -> Result<Control, ControlFault>
-    ensures { Gives (λ c. c) result (ack_in bytes.now) }
+    ensures { Gives is_memory result (ack_in bytes.now) }
 {
     let counted = counted_message(alloc, bytes)?;
     Ok(Control::Ack {
@@ -164,7 +181,7 @@ fn ack(alloc: Global, bytes: &[u8]) -> Result<Control, ControlFault>
 }
 
 fn nack(alloc: Global, bytes: &[u8]) -> Result<Control, ControlFault>
-    ensures { Gives (λ c. c) result (nack_in bytes.now) }
+    ensures { Gives is_memory result (nack_in bytes.now) }
 {
     let counted = counted_message(alloc, bytes)?;
     Ok(Control::Nack {
@@ -174,7 +191,7 @@ fn nack(alloc: Global, bytes: &[u8]) -> Result<Control, ControlFault>
 }
 
 fn heartbeat_answer(bytes: &[u8]) -> Result<Control, ControlFault>
-    ensures { Gives (λ c. c) result (heartbeat_answer_in bytes.now) }
+    ensures { Gives is_memory result (heartbeat_answer_in bytes.now) }
 {
     let uid = number(Path::Message, 1, bytes)?;
     Ok(Control::HeartbeatRsp { uid })
@@ -200,7 +217,7 @@ fn system_message(
 
 #[tactic(auto, unfolding(crate::specs::Message::numbered_in))]
 fn numbered(alloc: Global, bytes: &[u8]) -> Result<Control, ControlFault>
-    ensures { Gives (λ c. c) result (numbered_in bytes.now) }
+    ensures { Gives is_memory result (numbered_in bytes.now) }
 {
     let Some(payload) = last_bytes(1, bytes) else {
         return Err(ControlFault::Missing {

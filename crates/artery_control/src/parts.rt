@@ -2,7 +2,7 @@ ghost use Rattle.std.specs.Prelude.{◌≡◌, nat_lt};
 ghost use Rattle.std.specs.List.{list_all};
 ghost use Rattle.std.specs.Bool.{OnTrue};
 ghost use Rattle.std.specs.Str.{IsAscii};
-ghost use Rattle.artery_base.specs.Spelling.{is_part_byte};
+ghost use Rattle.artery_base.specs.Valid.{is_part_byte};
 ghost use Rattle.artery_control.specs.Parts.{is_part, is_key};
 
 /// The most bytes of a part of an address.

@@ -1,15 +1,27 @@
-ghost use Rattle.std.specs.Prelude.{◌≡◌, ◌++◌, [], IfOk};
+ghost use Rattle.std.specs.Prelude.{◌≡◌, ◌++◌, [], IfOk, IfSome};
 ghost use Rattle.std.specs.Option.{option_map};
 ghost use Rattle.artery_wire.specs.Record.{field_of};
-ghost use Rattle.artery_control.specs.Outcome.{Gives, to_field};
-ghost use Rattle.artery_control.specs.Picking.{fields_in, varint_in, bytes_in, last_number, last_payload, sound, packed_sound, where_present, each_payload, joined, embedded};
+ghost use Rattle.artery_base.specs.Words.{Gives};
+ghost use Rattle.artery_control.specs.Outcome.{to_field, is_memory, seen_by};
+ghost use Rattle.artery_control.specs.Picking.{fields_in, varint_in, bytes_in, last_number, last_payload, sound, packed_sound, sound_as, where_present, each_payload, joined, embedded};
+ghost use Rattle.artery_control.specs.Embedded.{bytes_of};
 
 use crate::fault::ControlFault;
 use crate::fields::Fields;
 use crate::path::Path;
+use crate::record::Record;
 use artery_base::{Bytes, NoMemory};
 use artery_wire::{Cursor, Field, Value};
 use std::alloc::Global;
+
+/// What the payload of a field is.
+#[derive(Clone, Copy)]
+pub(crate) enum Form {
+    /// A record.
+    Record,
+    /// A packed list of numbers.
+    Packed,
+}
 
 /// The number of the field, where it has this field number and is a varint.
 pub(crate) fn varint(number: u8, field: &Field<'_>) -> Option<u64>
@@ -60,7 +72,7 @@ pub(crate) fn last_bytes(number: u8, bytes: &[u8]) -> Option<&[u8]>
 /// The first wire fault of a record, as one at the path.
 #[tactic(auto, unfolding(crate::specs::Picking::sound))]
 pub(crate) fn check_record(path: Path, bytes: &[u8]) -> Result<(), ControlFault>
-    ensures { Gives (λ x. x) result (sound path bytes.now) }
+    ensures { Gives is_memory result (sound path bytes.now) }
 {
     let mut cursor = Cursor::new(bytes);
     loop {
@@ -74,8 +86,8 @@ pub(crate) fn check_record(path: Path, bytes: &[u8]) -> Result<(), ControlFault>
 
 /// The first wire fault of a packed list, as one at the path.
 #[tactic(auto, unfolding(crate::specs::Picking::packed_sound))]
-pub(crate) fn check_packed(path: Path, bytes: &[u8]) -> Result<(), ControlFault>
-    ensures { Gives (λ x. x) result (packed_sound path bytes.now) }
+fn check_packed(path: Path, bytes: &[u8]) -> Result<(), ControlFault>
+    ensures { Gives is_memory result (packed_sound path bytes.now) }
 {
     let mut cursor = Cursor::new(bytes);
     loop {
@@ -87,46 +99,39 @@ pub(crate) fn check_packed(path: Path, bytes: &[u8]) -> Result<(), ControlFault>
     }
 }
 
-/// An occurrence that is there is a record by itself.
-fn check_occurrence(path: Path, payload: Option<&[u8]>) -> Result<(), ControlFault>
-    ensures { Gives (λ x. x) result (where_present (sound path) (option_map (λ p. p.now) payload.entry)) }
+/// A payload has its form.
+fn check(form: Form, path: Path, payload: &[u8]) -> Result<(), ControlFault>
+    ensures { Gives is_memory result (sound_as form path payload.now) }
+{
+    match form {
+        Form::Record => check_record(path, payload),
+        Form::Packed => check_packed(path, payload),
+    }
+}
+
+/// An occurrence that is there has its form.
+fn check_occurrence(form: Form, path: Path, payload: Option<&[u8]>) -> Result<(), ControlFault>
+    ensures { Gives is_memory result (where_present (sound_as form path) (option_map (λ p. p.now) payload.entry)) }
 {
     match payload {
-        Some(payload) => check_record(path, payload),
+        Some(payload) => check(form, path, payload),
         None => Ok(()),
     }
 }
 
-/// A packed occurrence is a packed list by itself.
-fn check_packed_occurrence(path: Path, payload: Option<&[u8]>) -> Result<(), ControlFault>
-    ensures { Gives (λ x. x) result (where_present (packed_sound path) (option_map (λ p. p.now) payload.entry)) }
-{
-    match payload {
-        Some(payload) => check_packed(path, payload),
-        None => Ok(()),
-    }
-}
-
-/// Each occurrence of an embedded message is a record by itself.
+/// Each occurrence of a field has its form by itself.
 #[tactic(auto, unfolding(crate::specs::Picking::each_payload))]
-pub(crate) fn check_each(path: Path, number: u8, bytes: &[u8]) -> Result<(), ControlFault>
-    ensures { Gives (λ x. x) result (each_payload (sound path) number (fields_in bytes.now)) }
+pub(crate) fn check_each(
+    form: Form,
+    path: Path,
+    number: u8,
+    bytes: &[u8],
+) -> Result<(), ControlFault>
+    ensures { Gives is_memory result (each_payload (sound_as form path) number (fields_in bytes.now)) }
 {
     let mut fields = Fields::new(bytes);
     while let Some(field) = fields.next() {
-        check_occurrence(path, payload(number, &field))?;
-    }
-    Ok(())
-}
-
-/// Each packed occurrence of a repeated number is a packed list by itself.
-#[tactic(auto, unfolding(crate::specs::Picking::each_payload))]
-pub(crate) fn check_each_packed(path: Path, number: u8, bytes: &[u8]) -> Result<(), ControlFault>
-    ensures { Gives (λ x. x) result (each_payload (packed_sound path) number (fields_in bytes.now)) }
-{
-    let mut fields = Fields::new(bytes);
-    while let Some(field) = fields.next() {
-        check_packed_occurrence(path, payload(number, &field))?;
+        check_occurrence(form, path, payload(number, &field))?;
     }
     Ok(())
 }
@@ -144,21 +149,42 @@ fn joined_bytes(alloc: Global, number: u8, bytes: &[u8]) -> Result<Bytes, NoMemo
     Ok(record)
 }
 
-/// The record of an embedded message, whose occurrences are merged.
+/// The payload of a field that occurs once.
+#[tactic(auto, using(crate::proofs::Picks::alone), unfolding(crate::specs::Picking::joined))]
+fn only_bytes(number: u8, bytes: &[u8]) -> Option<&[u8]>
+    ensures { IfSome result (λ p. p.now ≡ joined number (fields_in bytes.now)) }
+{
+    let mut fields = Fields::new(bytes);
+    let mut only = None;
+    while let Some(field) = fields.next() {
+        if let Some(payload) = payload(number, &field) {
+            if only.is_some() {
+                return None;
+            }
+            only = Some(payload);
+        }
+    }
+    only
+}
+
+/// The record of an embedded message, whose occurrences are merged; of a single one it is the payload itself.
 #[tactic(auto, unfolding(crate::specs::Picking::embedded))]
-pub(crate) fn embedded_record(
+pub(crate) fn embedded_record<'a>(
     alloc: Global,
     path: Path,
     number: u8,
-    bytes: &[u8],
-) -> Result<Bytes, ControlFault>
-    ensures { Gives (λ b. b) result (embedded path number bytes.now) }
+    bytes: &'a [u8],
+) -> Result<Record<'a>, ControlFault>
+    ensures { Gives is_memory (seen_by bytes_of result) (embedded path number bytes.now) }
 {
     let path = path.to(number);
     if last_bytes(number, bytes).is_none() {
         return Err(ControlFault::Missing { path });
     }
-    check_each(path, number, bytes)?;
+    check_each(Form::Record, path, number, bytes)?;
+    if let Some(payload) = only_bytes(number, bytes) {
+        return Ok(Record::InPlace(payload));
+    }
     let record = joined_bytes(alloc, number, bytes)?;
-    Ok(record)
+    Ok(Record::Merged(record))
 }

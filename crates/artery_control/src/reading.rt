@@ -1,7 +1,8 @@
 ghost use Rattle.std.specs.Prelude.{◌≡◌, ◌≤◌, IfOk};
 ghost use Rattle.std.specs.Option.{option_map};
 ghost use Rattle.artery_wire.specs.Record.{field_of};
-ghost use Rattle.artery_control.specs.Outcome.{Gives, to_field};
+ghost use Rattle.artery_base.specs.Words.{Gives};
+ghost use Rattle.artery_control.specs.Outcome.{to_field, is_memory};
 ghost use Rattle.artery_control.specs.Message.{number_at, ranged, ranged_at, part_text, part_at, address_in, address_at, unique_in, unique_at, agreeing, sequence_at, table_ack_in, counted_in};
 
 use crate::fault::ControlFault;
@@ -46,7 +47,7 @@ const VERSIONS: u64 = 127;
 /// A required number.
 #[tactic(auto, unfolding(crate::specs::Message::number_at))]
 pub(crate) fn number(path: Path, number: u8, bytes: &[u8]) -> Result<u64, ControlFault>
-    ensures { Gives (λ n. n) result (number_at path number bytes.now) }
+    ensures { Gives is_memory result (number_at path number bytes.now) }
 {
     match last_varint(number, bytes) {
         Some(value) => Ok(value),
@@ -65,7 +66,7 @@ fn ranged_number(
     most: u16,
     bytes: &[u8],
 ) -> Result<u16, ControlFault>
-    ensures value { Gives (λ n. n) result (ranged_at path field least most bytes.now) }
+    ensures value { Gives is_memory result (ranged_at path field least most bytes.now) }
     ensures within { IfOk result (λ n. n ≤ most) }
 {
     let value = number(path, field, bytes)? % TWO_TO_32;
@@ -81,7 +82,7 @@ fn ranged_number(
 /// A required part of an address.
 #[tactic(auto, unfolding(crate::specs::Message::part_at))]
 fn part(alloc: Global, path: Path, number: u8, bytes: &[u8]) -> Result<Text, ControlFault>
-    ensures { Gives (λ t. t) result (part_at path number bytes.now) }
+    ensures { Gives is_memory result (part_at path number bytes.now) }
 {
     let path = path.to(number);
     let Some(text) = last_bytes(number, bytes) else {
@@ -97,7 +98,7 @@ fn part(alloc: Global, path: Path, number: u8, bytes: &[u8]) -> Result<Text, Con
 /// The address that a record is.
 #[tactic(auto, unfolding(crate::specs::Message::address_in))]
 fn address_of_record(alloc: Global, path: Path, bytes: &[u8]) -> Result<Address, ControlFault>
-    ensures { Gives (λ a. a) result (address_in path bytes.now) }
+    ensures { Gives is_memory result (address_in path bytes.now) }
 {
     let protocol = part(alloc, path, 1, bytes)?;
     let system = part(alloc, path, 2, bytes)?;
@@ -119,7 +120,7 @@ pub(crate) fn address(
     number: u8,
     bytes: &[u8],
 ) -> Result<Address, ControlFault>
-    ensures { Gives (λ a. a) result (address_at path number bytes.now) }
+    ensures { Gives is_memory result (address_at path number bytes.now) }
 {
     let record = embedded_record(alloc, path, number, bytes)?;
     address_of_record(alloc, path.to(number), record.as_slice())
@@ -128,7 +129,7 @@ pub(crate) fn address(
 /// The unique address that a record is.
 #[tactic(auto, unfolding(crate::specs::Message::unique_in))]
 fn unique_of_record(alloc: Global, path: Path, bytes: &[u8]) -> Result<UniqueAddress, ControlFault>
-    ensures { Gives (λ u. u) result (unique_in path bytes.now) }
+    ensures { Gives is_memory result (unique_in path bytes.now) }
 {
     let address = address(alloc, path, 1, bytes)?;
     let uid = number(path, 2, bytes)?;
@@ -143,7 +144,7 @@ pub(crate) fn unique(
     number: u8,
     bytes: &[u8],
 ) -> Result<UniqueAddress, ControlFault>
-    ensures { Gives (λ u. u) result (unique_at path number bytes.now) }
+    ensures { Gives is_memory result (unique_at path number bytes.now) }
 {
     let record = embedded_record(alloc, path, number, bytes)?;
     unique_of_record(alloc, path.to(number), record.as_slice())
@@ -151,7 +152,7 @@ pub(crate) fn unique(
 
 /// A required version of a table.
 pub(crate) fn version(path: Path, number: u8, bytes: &[u8]) -> Result<u8, ControlFault>
-    ensures { Gives (λ v. v) result (ranged_at path number 0 255 bytes.now) }
+    ensures { Gives is_memory result (ranged_at path number 0 255 bytes.now) }
 {
     let version = ranged_number(path, number, 0, 255, bytes)?;
     Ok(version as u8)
@@ -165,7 +166,7 @@ pub(crate) fn sequence(
     version: u8,
     bytes: &[u8],
 ) -> Result<Option<u64>, ControlFault>
-    ensures { Gives (λ s. s) result (sequence_at path number version bytes.now) }
+    ensures { Gives is_memory result (sequence_at path number version bytes.now) }
 {
     let Some(sequence) = last_varint(number, bytes) else {
         return Ok(None);
@@ -182,7 +183,7 @@ pub(crate) fn sequence(
 /// An adopted table and who adopted it.
 #[tactic(auto, unfolding(crate::specs::Message::table_ack_in))]
 pub(crate) fn table_ack_message(alloc: Global, bytes: &[u8]) -> Result<TableAck, ControlFault>
-    ensures { Gives (λ t. t) result (table_ack_in bytes.now) }
+    ensures { Gives is_memory result (table_ack_in bytes.now) }
 {
     let from = unique(alloc, Path::Message, 1, bytes)?;
     let version = version(Path::Message, 2, bytes)?;
@@ -197,7 +198,7 @@ pub(crate) fn table_ack_message(alloc: Global, bytes: &[u8]) -> Result<TableAck,
 /// A number and who tells it.
 #[tactic(auto, unfolding(crate::specs::Message::counted_in))]
 pub(crate) fn counted_message(alloc: Global, bytes: &[u8]) -> Result<Counted, ControlFault>
-    ensures { Gives (λ c. c) result (counted_in bytes.now) }
+    ensures { Gives is_memory result (counted_in bytes.now) }
 {
     let n = number(Path::Message, 1, bytes)?;
     let from = unique(alloc, Path::Message, 2, bytes)?;

@@ -35,11 +35,8 @@ pub fn write_control(control: &Control, out: &mut Bytes) -> Result<(), NoMemory>
     ensures err { OnErr result (out.new ≡ out.old) }
 {
     let before = out.len();
-    let result = append_control(control, out);
-    if result.is_err() {
-        out.truncate(before);
-    }
-    result
+    let appended = append_control(control, out);
+    out.settle(before, appended)
 }
 
 /// How many bytes a field with this payload has; want of memory where no memory holds so many.

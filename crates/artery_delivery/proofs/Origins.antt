@@ -7,7 +7,7 @@ use Rattle.artery_base.specs.contracts.address.UniqueAddressEq.TheImpl.Laws.{law
 use Rattle.artery_base.specs.declared.address.UniqueAddress.{UniqueAddress}
 use Rattle.artery_delivery.specs.declared.inbound.Opened.{Opened}
 use Rattle.artery_delivery.specs.declared.inbound.Opened.TheVariants.{Opened as NewlyOpened, Known, OriginsFull}
-use Rattle.artery_delivery.specs.declared.inbound.TheConstants.{MOST_ORIGINS}
+use Rattle.artery_delivery.specs.Limits.{most_origins}
 use Rattle.artery_delivery.specs.Inbound.{same_origin, expected_of, opening, entries_after, with_origin, next_of, is_expected, with_taken, IsKnown, IsKnownAfter}
 
 inserted_last : (o : UniqueAddress) (es : List (UniqueAddress × ℕ)) → is_some (expected_of o es) ≡ false → insert_entry same_origin es o 1 ≡ es ++ (o, 1) ∷ []
@@ -24,7 +24,7 @@ new_is_absent false full h = refl
 
 -- a new origin is inserted as the last
 pub inserts : (o : UniqueAddress) (es : List (UniqueAddress × ℕ)) → opening o es ≡ NewlyOpened → insert_entry same_origin es o 1 ≡ with_origin o es
-inserts o es h = rw h (inserted_last o es (new_is_absent (is_some (expected_of o es)) (nat_le MOST_ORIGINS (length es)) h))
+inserts o es h = rw h (inserted_last o es (new_is_absent (is_some (expected_of o es)) (nat_le most_origins (length es)) h))
 
 first_or_rest : (b : Bool) (v w : ℕ) (r s : Option ℕ) → IsSome (if b then Some v else r) → (IsSome r → IsSome s) → IsSome (if b then Some w else s)
 first_or_rest true v w r s h f = refl
@@ -74,7 +74,7 @@ stays_known_take o q n es h = by (is_expected n (next_of o es))
 
 -- and one that was opened or known is known
 pub known_after : (o : UniqueAddress) (es : List (UniqueAddress × ℕ)) → IsKnownAfter (opening o es) o (with_origin o es)
-known_after o es = by (opening o es) (known_is_known (is_some (expected_of o es)) (nat_le MOST_ORIGINS (length es)))
+known_after o es = by (opening o es) (known_is_known (is_some (expected_of o es)) (nat_le most_origins (length es)))
   where
     by : (answer : Opened) → (answer ≡ Known → IsKnown o es) → IsKnownAfter answer o (entries_after answer o es)
     by NewlyOpened h = known_last (same_origin o) es o 1 (laws-law.refl o)

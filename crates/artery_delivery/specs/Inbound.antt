@@ -4,7 +4,7 @@ use Rattle.std.specs.Map.{lookup, set_value}
 use Rattle.artery_base.specs.declared.message.SysMsg.{SysMsg}
 use Rattle.artery_base.specs.declared.address.UniqueAddress.{UniqueAddress}
 use Rattle.artery_base.specs.contracts.address.UniqueAddressPartialEq.TheImpl as unique_eq
-use Rattle.artery_delivery.specs.declared.inbound.TheConstants.{MOST_ORIGINS, NEVER_EXPECTED}
+use Rattle.artery_delivery.specs.Limits.{most_origins, never_expected}
 use Rattle.artery_delivery.specs.declared.inbound.Opened.{Opened}
 use Rattle.artery_delivery.specs.declared.inbound.Opened.TheVariants.{Opened as NewlyOpened, Known, OriginsFull}
 use Rattle.artery_delivery.specs.declared.inbound.Take.{Take}
@@ -22,7 +22,7 @@ expected_of origin entries = lookup (same_origin origin) entries
 abbrev pub opening : UniqueAddress → List (UniqueAddress × ℕ) → Opened
 opening origin entries =
     if is_some (expected_of origin entries) then Known
-    else if nat_le MOST_ORIGINS (length entries) then OriginsFull else NewlyOpened
+    else if nat_le most_origins (length entries) then OriginsFull else NewlyOpened
 
 -- The entries after an answer: a newly opened origin is the last, and number 1 is expected of it; else nothing changes.
 abbrev pub entries_after : Opened → UniqueAddress → List (UniqueAddress × ℕ) → List (UniqueAddress × ℕ)
@@ -50,7 +50,7 @@ next_of origin entries = unwrap_or (expected_of origin entries) 1
 
 -- Whether a number is the expected one. The last number of its type never is.
 abbrev pub is_expected : ℕ → ℕ → Bool
-is_expected n expected = (n == expected) && nat_lt n NEVER_EXPECTED
+is_expected n expected = (n == expected) && nat_lt n never_expected
 
 -- A number is taken where it is the expected one; below that it is Again, and else Gap. The last number taken is the expected one less one.
 abbrev pub taking : UniqueAddress → ℕ → List (UniqueAddress × ℕ) → Take
@@ -71,7 +71,7 @@ taken_of origin all = lookup (same_origin origin) all
 abbrev pub answer_to_open : UniqueAddress → List (UniqueAddress × List SysMsg) → Opened
 answer_to_open origin all =
     if is_some (taken_of origin all) then Known
-    else if nat_le MOST_ORIGINS (length all) then OriginsFull else NewlyOpened
+    else if nat_le most_origins (length all) then OriginsFull else NewlyOpened
 
 -- The lists after an answer: a newly opened origin is the last, and nothing is taken from it yet; else nothing changes.
 abbrev pub lists_after : Opened → UniqueAddress → List (UniqueAddress × List SysMsg) → List (UniqueAddress × List SysMsg)

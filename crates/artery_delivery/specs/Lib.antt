@@ -1,3 +1,4 @@
+pub mod Limits
 pub mod Outbound
 pub mod Inbound
 pub mod Rings

@@ -2,7 +2,7 @@
 use Rattle.std.specs.Prelude.{◌≡◌, ℕ, ◌+◌, ◌-◌, ◌*◌, ◌≤◌, Bool, true, false, ◌&&◌, ◌||◌, ◌==◌, nat_lt, nat_le, max, min, List, [], ◌∷◌, ◌++◌, length, drop, slice_get, Option, None, is_some, if◌then◌else◌}
 use Rattle.std.specs.Option.{option_map}
 use Rattle.artery_base.specs.declared.message.SysMsg.{SysMsg}
-use Rattle.artery_delivery.specs.declared.outbound.TheConstants.{MOST_KEPT, WINDOW, LAST_NUMBER, FIRST_ROOM}
+use Rattle.artery_delivery.specs.Limits.{most_kept, window, last_number, first_room}
 use Rattle.artery_delivery.specs.declared.outbound.Accept.{Accept}
 use Rattle.artery_delivery.specs.declared.outbound.Accept.TheVariants.{Accepted, Waiting, Overflow}
 use Rattle.artery_delivery.specs.declared.outbound.Acked.{Acked}
@@ -31,7 +31,7 @@ given k = if k.learnt then k.acknowledged + length k.messages else 0
 
 -- Nothing more is accepted beside 20,000 kept messages, nor after the last number that there is.
 abbrev pub is_full : Kept → Bool
-is_full k = nat_le MOST_KEPT (length k.messages) || nat_le LAST_NUMBER (given k)
+is_full k = nat_le most_kept (length k.messages) || nat_le last_number (given k)
 
 -- A message that overflows comes back; else it has the next number, or without a UID a place counted from 1.
 abbrev pub acceptance : SysMsg → Kept → Accept
@@ -71,7 +71,7 @@ kept_refused n k = if nat_lt (given k) n then k else kept_rewound (kept_acknowle
 -- The next message to write with its number, where a UID is learnt and the number is at most the window above the acknowledged one.
 abbrev pub next_to_write : Kept → Option (ℕ × SysMsg)
 next_to_write k =
-    if k.learnt && nat_lt k.written (k.acknowledged + WINDOW)
+    if k.learnt && nat_lt k.written (k.acknowledged + window)
     then option_map (λ m. (k.written + 1, m)) (slice_get k.messages (k.written - k.acknowledged))
     else None
 
@@ -86,7 +86,7 @@ kept_message place k = if place == 0 then None else slice_get k.messages (place 
 -- The places after a reserve: as before where one is free or nothing more is accepted, else twice as many, from 16 up to 20,000.
 abbrev pub room_reserved : Outbox → ℕ
 room_reserved o =
-    if is_full o.kept || nat_lt (length o.kept.messages) o.room then o.room else min MOST_KEPT (max FIRST_ROOM (2 * o.room))
+    if is_full o.kept || nat_lt (length o.kept.messages) o.room then o.room else min most_kept (max first_room (2 * o.room))
 
 -- The whole history with the current incarnation of a peer: all messages sent to it, never shortened; the greatest numbers
 -- acknowledged and written; the messages that wait for a UID; and whether one is learnt.
@@ -107,7 +107,7 @@ unacknowledged s = if s.learnt then drop s.acknowledged s.sent else s.waiting
 
 -- Nothing more is accepted beside 20,000 kept messages, nor after the last number that there is.
 abbrev pub has_no_room : State → Bool
-has_no_room s = nat_le MOST_KEPT (length (unacknowledged s)) || nat_le LAST_NUMBER (length s.sent)
+has_no_room s = nat_le most_kept (length (unacknowledged s)) || nat_le last_number (length s.sent)
 
 -- An accepted message has its place in the list of those sent as its number; without a UID its place among those that wait.
 abbrev pub answer_to : SysMsg → State → Accept
@@ -150,7 +150,7 @@ refused n s = if nat_lt (length s.sent) n then s else rewound (acknowledged n s)
 -- The next to write is the message sent that follows the written number, where that is at most the window above the acknowledged one.
 abbrev pub next_sent : State → Option (ℕ × SysMsg)
 next_sent s =
-    if nat_lt s.written (s.acknowledged + WINDOW)
+    if nat_lt s.written (s.acknowledged + window)
     then option_map (λ m. (s.written + 1, m)) (slice_get s.sent s.written)
     else None
 

@@ -2,7 +2,7 @@
 use Rattle.std.specs.Prelude.{◌≡◌, ℕ, ◌+◌, ◌≤◌, false, List, [], length, Option, Some, None}
 use Rattle.circular_buffer.specs.Buffer.{Buffer}
 use Rattle.artery_base.specs.declared.message.SysMsg.{SysMsg}
-use Rattle.artery_delivery.specs.declared.outbound.TheConstants.{MOST_KEPT, LAST_NUMBER}
+use Rattle.artery_delivery.specs.Limits.{most_kept, last_number}
 use Rattle.artery_delivery.specs.Outbound.{Outbox}
 
 -- The messages in the ring, if there is one.
@@ -23,5 +23,5 @@ pub record IsInOrder (o : Outbox) : Type 0 where
   pub written_after : o.kept.acknowledged ≤ o.kept.written
   pub given_before : o.kept.written ≤ o.kept.acknowledged + length o.kept.messages
   pub in_room : length o.kept.messages ≤ o.room
-  pub room_at_most : o.room ≤ MOST_KEPT
-  pub fits : o.kept.acknowledged + length o.kept.messages ≤ LAST_NUMBER
+  pub room_at_most : o.room ≤ most_kept
+  pub fits : o.kept.acknowledged + length o.kept.messages ≤ last_number

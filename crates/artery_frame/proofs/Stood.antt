@@ -8,12 +8,13 @@ use Rattle.artery_frame.specs.declared.stream.Stream.{Stream}
 use Rattle.artery_frame.specs.declared.fault.FrameFault.{FrameFault}
 use Rattle.artery_frame.specs.declared.fault.FrameFault.TheVariants.{TooLong}
 use Rattle.artery_frame.specs.Stream.{Reading, reading_of, reading_by, preamble_of, front_of, frames_in, span, fault_of}
-use Rattle.artery_frame.specs.Kept.{Kept, told, nothing_kept, settled_by, after_preamble, kept_fed, kept_answer, answer_by, preamble_answer, kept_given, given_by, unless_broken}
+use Rattle.artery_frame.specs.Kept.{Kept, told, nothing_kept, settled_by, after_preamble, kept_fed, kept_answer, answer_by, preamble_answer, kept_given, given_by, unless_broken, LeavesHeld}
 use Rattle.artery_frame.specs.Standing.{Stands, StandsBy, HasEnded, given_out, next_of, after_all, with_answer, AfterNext}
 use Rattle.artery_frame.proofs.Fronts.{front_says, front_fault, Says}
 use Rattle.artery_frame.proofs.Frames.{AreFirst, front_next, span_within, first_stay}
 use Rattle.artery_frame.proofs.Preambles.{preamble_stays, preamble_len, preamble_short, preamble_place}
 use Rattle.artery_frame.proofs.Readings.{reading_at, fits_behind}
+use Rattle.artery_frame.proofs.Holding.{leaves}
 
 -- nothing says nothing
 nothing_read : preamble_of [] ≡ Ok None
@@ -272,9 +273,6 @@ starts_so new room e = let P : Kept → Type 0 = λ w. Stands w [] [] in subst P
 pub answers_so : (k : Kept) (answer : Result (Option (List ℕ)) FrameFault) → answer ≡ kept_answer k → (fed : List ℕ) (given : List (List ℕ)) → Stands k fed given → answer ≡ next_of (reading_of fed) given
 answers_so k answer e fed given h = e ∙ answers k fed given h
 
-pub small_so : (k : Kept) (answer : Result (Option (List ℕ)) FrameFault) → answer ≡ kept_answer k → (fed : List ℕ) (given : List (List ℕ)) → Stands k fed given → answer ≡ Ok None → length k.rest < 262148
-small_so k answer e fed given h n = held_small k fed given h (sym e ∙ n)
-
 -- a piece changes neither the room nor the fault
 fed_parts : (rest piece : List ℕ) (place : ℕ) (stream : Option Stream) (fault : Option FrameFault) (room : Bool)
     → ((kept_fed piece (of_parts rest place stream fault room)).has_room ≡ room) × ((kept_fed piece (of_parts rest place stream fault room)).fault ≡ fault)
@@ -303,5 +301,6 @@ pub after_so : (k new : Kept) (answer : Result (Option (List ℕ)) FrameFault) �
 after_so k new answer e a = record {
   kept = e;
   room = ap (λ (w : Kept). w.has_room) e ∙ given_room_by k k.fault (kept_answer k);
+  held = let P : Kept → Type 0 = λ w. LeavesHeld answer k.rest w.rest in let Q : Result (Option (List ℕ)) FrameFault → Type 0 = λ x. LeavesHeld x k.rest (kept_given k).rest in subst P (sym e) (subst Q (sym a) (leaves k));
   stands = λ fed given h. let P : Result (Option (List ℕ)) FrameFault → Type 0 = λ x. Stands new fed (with_answer given x) in subst P (sym a) (after_next k new fed given e h);
 }

@@ -1,5 +1,5 @@
 -- What a `Deframer` keeps of a stream, and what that stands for.
-use Rattle.std.specs.Prelude.{◌≡◌, ℕ, ◌+◌, ◌-◌, ◌^◌, ◌≤◌, min, Bool, List, [], ◌++◌, length, take, drop, Option, Some, None, Result, Ok, Err}
+use Rattle.std.specs.Prelude.{◌≡◌, ◌≢◌, ℕ, ◌+◌, ◌-◌, ◌^◌, ◌≤◌, min, Bool, List, [], ◌++◌, length, take, drop, Option, Some, None, Result, Ok, Err}
 use Rattle.std.specs.Borrow.{Bor}
 use Rattle.std.specs.Option.{option_copied}
 use Rattle.artery_frame.specs.declared.stream.Stream.{Stream}
@@ -38,6 +38,25 @@ settled_by k (Some stream) = k
 -- What is kept once the preamble is given out, where it is whole.
 abbrev pub settled : Kept → Kept
 settled k = settled_by k k.stream
+
+-- No whole preamble is held while no id is known.
+abbrev pub IsSettledBy : Option Stream → List ℕ → Type 0
+IsSettledBy None rest = (stream : Stream) → preamble_of rest ≢ Ok (Some stream)
+IsSettledBy (Some stream) rest = Unit {0}
+
+-- What every `Deframer` keeps: the preamble was given out as soon as it was whole.
+abbrev pub IsSettled : Kept → Type 0
+IsSettled k = IsSettledBy k.stream k.rest
+
+-- The stream that is told now: by a whole preamble, while none is known.
+abbrev pub new_stream : Option Stream → Result (Option Stream) FrameFault → Option Stream
+new_stream (Some known) p = None
+new_stream None (Ok stream) = stream
+new_stream None (Err fault) = None
+
+-- With the next piece at most so many bytes are held: less than a whole frame with its length, and a piece.
+abbrev pub held_limit : ℕ
+held_limit = 327684
 
 -- A piece comes behind what is held.
 abbrev pub kept_fed : List ℕ → Kept → Kept
@@ -78,6 +97,12 @@ unless_broken None k next = next
 -- What a call of `next` leaves.
 abbrev pub kept_given : Kept → Kept
 kept_given k = unless_broken k.fault k (given_by k (kept_answer k))
+
+-- A frame that was given is no longer held, nor is its length; any other answer leaves what is held.
+abbrev pub LeavesHeld : Result (Option (List ℕ)) FrameFault → List ℕ → List ℕ → Type 0
+LeavesHeld (Ok (Some frame)) old new = length old ≡ length new + (4 + length frame)
+LeavesHeld (Ok None) old new = new ≡ old
+LeavesHeld (Err fault) old new = new ≡ old
 
 -- The length of the whole frame at the front is found, with the frame in the bytes.
 abbrev pub FindsFront : Result (Option ℕ) FrameFault → List ℕ → Type 0

@@ -3,7 +3,7 @@ use Rattle.std.specs.Prelude.{◌≡◌, ℕ, ◌+◌, List, [], ◌∷◌, ◌+
 use Rattle.artery_frame.specs.declared.stream.Stream.{Stream}
 use Rattle.artery_frame.specs.declared.fault.FrameFault.{FrameFault}
 use Rattle.artery_frame.specs.Stream.{Reading, reading_of, span}
-use Rattle.artery_frame.specs.Kept.{Kept, told, kept_given}
+use Rattle.artery_frame.specs.Kept.{Kept, told, kept_given, LeavesHeld}
 
 -- So many bytes were given out: none before the id is known, then the preamble and the frames given.
 abbrev pub given_out : Option Stream → List (List ℕ) → ℕ
@@ -48,9 +48,10 @@ with_answer given (Ok (Some frame)) = given ++ frame ∷ []
 with_answer given (Ok None) = given
 with_answer given (Err fault) = given
 
--- A call of `next` leaves what is kept without what it gave, with room as before, and that stands for the
--- frame given too.
+-- A call of `next` leaves what is kept without what it gave, with room as before, and less is held by a frame
+-- given; what it leaves stands for that frame too.
 pub record AfterNext (old new : Kept) (answer : Result (Option (List ℕ)) FrameFault) : Type 0 where
   pub kept : new ≡ kept_given old
   pub room : new.has_room ≡ old.has_room
+  pub held : LeavesHeld answer old.rest new.rest
   pub stands : (fed : List ℕ) (given : List (List ℕ)) → Stands old fed given → Stands new fed (with_answer given answer)

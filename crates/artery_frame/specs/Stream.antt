@@ -1,6 +1,8 @@
 -- The reading of a stream: what it carries, its frames, and how it ends.
 use Rattle.std.specs.Prelude.{◌≡◌, ◌≢◌, ℕ, zero, suc, ◌+◌, ◌<◌, ◌≤◌, ◌==◌, nat_lt, if◌then◌else◌, List, [], ◌∷◌, ◌++◌, length, take, drop, slice_get, codes, Option, Some, None, IfSome, Result, Ok, Err}
+use Rattle.std.specs.List.{flat_map}
 use Rattle.byteorder.specs.Endian.{little_number, little_bytes}
+use Rattle.artery_base.specs.Words.{IsPrefix}
 use Rattle.artery_frame.specs.declared.stream.Stream.{Stream}
 use Rattle.artery_frame.specs.declared.stream.Stream.TheVariants.{Control, Ordinary}
 use Rattle.artery_frame.specs.declared.fault.FrameFault.{FrameFault}
@@ -9,6 +11,10 @@ use Rattle.artery_frame.specs.declared.fault.FrameFault.TheVariants.{BadMagic, B
 -- A frame has at most so many bytes.
 abbrev pub frame_limit : ℕ
 frame_limit = 262144
+
+-- A piece of a stream has at most so many bytes.
+abbrev pub piece_limit : ℕ
+piece_limit = 65536
 
 -- Every stream begins with these bytes.
 abbrev pub magic : List ℕ
@@ -145,6 +151,10 @@ pub record GoesOn (r other : Reading) : Type 0 where
   pub frames : (more : List (List ℕ)) × (other.frames ≡ r.frames ++ more)
   pub fault : IfSome r.end (λ _. other ≡ r)
 
+-- The frames that a piece completes, where these bytes came before it.
+abbrev pub new_frames : List ℕ → List ℕ → List (List ℕ)
+new_frames fed piece = drop (length (reading_of fed).frames) (reading_of (fed ++ piece)).frames
+
 -- What is written before the first frame.
 abbrev pub preamble : Stream → List ℕ
 preamble stream = magic ++ id_of stream ∷ []
@@ -153,6 +163,10 @@ preamble stream = magic ++ id_of stream ∷ []
 abbrev pub framed : List ℕ → List ℕ
 framed frame = little_bytes 4 (length frame) ++ frame
 
+-- What is written of a stream with these frames.
+abbrev pub written : Stream → List (List ℕ) → List ℕ
+written stream frames = preamble stream ++ flat_map framed frames
+
 -- The frame is not too long.
 abbrev pub IsShort : List ℕ → Type 0
 IsShort frame = length frame ≤ frame_limit
@@ -160,3 +174,10 @@ IsShort frame = length frame ≤ frame_limit
 -- The reading of what was written of a stream with these frames.
 abbrev pub whole_reading : Stream → List (List ℕ) → Reading
 whole_reading stream frames = record { stream = Some stream; frames = frames; offset = 5 + span frames; end = None }
+
+-- The reading is that of bytes which begin what is written of a stream with these frames: no other stream, no fault,
+-- and the first of the frames.
+pub record IsFrontReading (stream : Stream) (frames : List (List ℕ)) (r : Reading) : Type 0 where
+  pub carried : IfSome r.stream (λ s. s ≡ stream)
+  pub first : IsPrefix r.frames frames
+  pub sound : r.end ≡ None

@@ -1,9 +1,9 @@
 ghost use Rattle.std.specs.Prelude.{◌≡◌, ◌+◌, ◌<◌, ◌≤◌, ℕ, List, [], ◌++◌, length, true, false, IsTrue, IsSome, is_some, is_err, IsOk, vec_capacity, IfOk, OnOk, OnErr, IsErrOf};
 ghost use Rattle.std.specs.Borrow.{sem};
 ghost use Rattle.std.specs.Io.BufRead.{Rests};
-ghost use Rattle.artery_frame.specs.Stream.{reading_of};
+ghost use Rattle.artery_frame.specs.Stream.{reading_of, preamble_of, piece_limit};
 ghost use Rattle.artery_frame.specs.Standing.{Stands, next_of, AfterNext, given_out, place_after};
-ghost use Rattle.artery_frame.specs.Kept.{told, nothing_kept, settled, kept_fed, kept_answer, kept_given, seen, Looks, FindsNone, fault_place};
+ghost use Rattle.artery_frame.specs.Kept.{told, nothing_kept, kept_fed, kept_answer, kept_given, held_limit, IsSettled, new_stream, seen, Looks, FindsNone, fault_place};
 
 use crate::buffer::cut_off;
 use crate::fault::{Broken, FeedFault, FrameFault};
@@ -36,13 +36,14 @@ pub struct Deframer {
 
 impl Model for Deframer {
     ghost use Rattle.std.specs.Prelude.{◌≤◌, drop, vec_len, vec_capacity, IsTrue};
-    ghost use Rattle.artery_frame.specs.Kept.{Kept};
+    ghost use Rattle.artery_frame.specs.Kept.{Kept, IsSettledBy};
 
     ghost Value = { Kept };
 
     ghost view = { λ d. record { rest = drop d.from d.buffer.items; place = d.place; stream = d.stream; fault = d.fault; has_room = d.has_room } };
 
-    ghost invariant = { λ d. (d.from ≤ vec_len d.buffer) × (IsTrue d.has_room → 655368 ≤ vec_capacity d.buffer) };
+    ghost invariant = { λ d. (d.from ≤ vec_len d.buffer) × (IsTrue d.has_room → 655368 ≤ vec_capacity d.buffer)
+        × IsSettledBy d.stream (drop d.from d.buffer.items) };
 }
 
 impl Deframer {
@@ -70,7 +71,7 @@ impl Deframer {
     /// answered a fault. A refused piece changes nothing.
     #[tactic(auto)]
     pub fn feed(&mut self, piece: &[u8]) -> Result<(), FeedFault>
-        requires { length piece.now ≤ PIECE_LIMIT }
+        requires { length piece.now ≤ piece_limit }
         ensures ok { OnOk result (self.new ≡ kept_fed piece.now self.old) }
         ensures err { OnErr result (self.new ≡ self.old) }
         ensures broken { IsErrOf result FeedFault.Broken → IsSome self.old.fault }
@@ -93,8 +94,8 @@ impl Deframer {
     #[tactic(auto)]
     pub fn feed_room(&mut self, piece: &[u8]) -> Result<(), Broken>
         requires has_room { IsTrue self.old.has_room }
-        requires piece { length piece.now ≤ PIECE_LIMIT }
-        requires held { length self.old.rest + length piece.now ≤ HELD_LIMIT }
+        requires piece { length piece.now ≤ piece_limit }
+        requires held { length self.old.rest + length piece.now ≤ held_limit }
         ensures ok { OnOk result (self.new ≡ kept_fed piece.now self.old) }
         ensures err { OnErr result (self.new ≡ self.old) }
         ensures broken { is_err result ≡ is_some self.old.fault }
@@ -111,16 +112,15 @@ impl Deframer {
         Ok(())
     }
 
-    /// The next frame, in order. None where all whole frames were given and the stream may go on: less
-    /// than 262,148 bytes are held then. A fault where all were given and the stream has it, and again at
-    /// each later call. Takes no memory.
+    /// The next frame, in order, which is no longer held then. None where all whole frames were given and
+    /// the stream may go on: less than 262,148 bytes are held then, whatever was fed. A fault where all were
+    /// given and the stream has it, and again at each later call. Takes no memory.
     #[tactic(auto)]
     pub fn next(&mut self) -> Result<Option<&[u8]>, FrameFault>
         ensures answer { seen result ≡ kept_answer self.old }
         ensures given { (fed : List ℕ) (given : List (List ℕ)) → Stands self.old fed given
             → seen result ≡ next_of (reading_of fed) given }
-        ensures small { (fed : List ℕ) (given : List (List ℕ)) → Stands self.old fed given → seen result ≡ Ok None
-            → length self.old.rest < 262148 }
+        ensures small { seen result ≡ Ok None → length self.old.rest < 262148 }
         ensures* after { sem 𝓛 (Rests the_row self.entry (λ new. AfterNext self.old new (seen result))) }
     {
         self.take_frame()
@@ -155,6 +155,7 @@ impl Deframer {
         self.buffer.len() - self.from
     }
 
+    #[tactic(auto, using(crate::proofs::Holding::nothing_settled))]
     fn with_buffer(buffer: Vec<u8>, has_room: bool) -> Deframer
         requires empty { buffer.items ≡ [] }
         requires room { IsTrue has_room → ROOM ≤ vec_capacity buffer }
@@ -177,26 +178,32 @@ impl Deframer {
         self.fault.is_some()
     }
 
-    /// Adds a piece behind what is held, which is moved to the front first where that is worth its while.
-    #[tactic(auto, using(crate::proofs::Stood::fed_room, crate::proofs::Stood::fed_fault))]
+    /// Adds a piece behind what is held, which is moved to the front first where that is worth its while,
+    /// and takes the preamble off the front, once it is whole and good.
+    #[tactic(auto, using(crate::proofs::Stood::fed_room, crate::proofs::Stood::fed_fault, crate::proofs::Holding::none_told, crate::proofs::Holding::one_told, crate::proofs::Holding::none_settled))]
     fn append(&mut self, piece: &[u8]) -> Result<(), AllocError>
-        requires { length piece.now ≤ PIECE_LIMIT }
+        requires { length piece.now ≤ piece_limit }
         ensures ok { OnOk result (self.new ≡ kept_fed piece.now self.old) }
         ensures err { OnErr result (self.new ≡ self.old) }
         ensures room { self.new.has_room ≡ self.old.has_room }
         ensures fault { self.new.fault ≡ self.old.fault }
-        ensures fits { IsTrue self.old.has_room → length self.old.rest + length piece.now ≤ HELD_LIMIT → IsOk result }
+        ensures fits { IsTrue self.old.has_room → length self.old.rest + length piece.now ≤ held_limit → IsOk result }
     {
         self.from = cut_off(&mut self.buffer, self.from);
         self.buffer.extend_from_slice(piece)?;
-        self.settle();
+        if let Some(stream) = new_stream(self.stream, &self.buffer[self.from..]) {
+            self.from += PREAMBLE_LEN;
+            self.place = PREAMBLE_LEN as u64;
+            self.stream = Some(stream);
+        }
         Ok(())
     }
 
     /// Takes the frame at the front, if a whole one stands there.
-    #[tactic(auto, using(crate::proofs::Cuts::frame_cut_off, crate::proofs::Cuts::frame_shown))]
+    #[tactic(auto, using(crate::proofs::Cuts::frame_cut_off, crate::proofs::Cuts::frame_shown, crate::proofs::Holding::frame_settled))]
     fn take_frame(&mut self) -> Result<Option<&[u8]>, FrameFault>
         ensures answer { seen result ≡ kept_answer self.old }
+        ensures settled { IsSettled self.old }
         ensures* after { sem 𝓛 (Rests the_row self.entry (λ new. new ≡ kept_given self.old)) }
     {
         match self.look()? {
@@ -210,25 +217,10 @@ impl Deframer {
         }
     }
 
-    /// Takes the preamble off the front, where it is whole and good.
-    fn settle(&mut self)
-        ensures { self.new ≡ settled self.old }
-    {
-        match self.stream {
-            Some(_) => {}
-            None => {
-                if let Ok(Some(stream)) = preamble_of(&self.buffer[self.from..]) {
-                    self.from += PREAMBLE_LEN;
-                    self.place = PREAMBLE_LEN as u64;
-                    self.stream = Some(stream);
-                }
-            }
-        }
-    }
-
     /// The length of the whole frame at the front, which stays; a fault is kept.
     fn look(&mut self) -> Result<Option<usize>, FrameFault>
-        ensures { Looks result self.old self.new }
+        ensures found { Looks result self.old self.new }
+        ensures settled { IsSettled self.old }
     {
         if let Some(fault) = self.fault {
             return Err(fault);
@@ -244,6 +236,20 @@ impl Deframer {
             self.fault = Some(fault);
         }
         found
+    }
+}
+
+/// The stream whose whole preamble stands at the front, where none is known.
+fn new_stream(known: Option<Stream>, bytes: &[u8]) -> Option<Stream>
+    ensures told { result ≡ new_stream known (preamble_of bytes.now) }
+    ensures whole { IsSome result → 5 ≤ length bytes.now }
+{
+    if known.is_some() {
+        return None;
+    }
+    match preamble_of(bytes) {
+        Ok(stream) => stream,
+        Err(_) => None,
     }
 }
 

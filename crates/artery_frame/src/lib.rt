@@ -18,6 +18,8 @@ mod write;
 pub use deframer::{Deframer, HELD_LIMIT, PIECE_LIMIT};
 pub use fault::{Broken, FeedFault, FrameFault};
 pub use front::FRAME_LIMIT;
-pub use laws::{keeping_stands, one_reading};
+pub use laws::{
+    holding_stands, keeping_stands, limits_stand, one_reading, pieces_join, readings_are_within,
+};
 pub use stream::Stream;
 pub use write::{write_frame, write_preamble};

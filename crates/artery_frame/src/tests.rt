@@ -134,6 +134,10 @@ fn what_is_written_is_read(rt: HostRuntime) -> Result<(), AllocError> {
     assert!(rt; write_preamble(Stream::Control, &mut out).is_ok());
     assert_eq!(rt; out.as_slice(), b"AKKA\x01".as_slice());
     one_reading();
+    readings_are_within();
+    pieces_join();
     keeping_stands();
+    holding_stands();
+    limits_stand();
     Ok(())
 }

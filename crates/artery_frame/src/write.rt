@@ -1,5 +1,5 @@
 ghost use Rattle.std.specs.Prelude.{◌≡◌, ◌++◌, ◌≤◌, length, OnOk, OnErr};
-ghost use Rattle.artery_frame.specs.Stream.{preamble, framed};
+ghost use Rattle.artery_frame.specs.Stream.{frame_limit, preamble, framed};
 
 use crate::stream::Stream;
 use artery_base::{Bytes, NoMemory};
@@ -18,16 +18,13 @@ pub fn write_preamble(stream: Stream, out: &mut Bytes) -> Result<(), NoMemory>
 /// Appends a frame: its length in four bytes, the lowest first, and its bytes, at most 262,144.
 /// Without memory nothing changes.
 pub fn write_frame(bytes: &[u8], out: &mut Bytes) -> Result<(), NoMemory>
-    requires { length bytes.now ≤ 262144 }
+    requires { length bytes.now ≤ frame_limit }
     ensures ok { OnOk result (out.new ≡ out.old ++ framed bytes.now) }
     ensures err { OnErr result (out.new ≡ out.old) }
 {
     let before = out.len();
     let len = bytes.len() as u32;
     out.extend_from_slice(&len.to_le_bytes())?;
-    let added = out.extend_from_slice(bytes);
-    if added.is_err() {
-        out.truncate(before);
-    }
-    added
+    let appended = out.extend_from_slice(bytes);
+    out.settle(before, appended)
 }

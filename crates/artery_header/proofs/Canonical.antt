@@ -3,10 +3,10 @@ use Rattle.std.proofs.Common.{◌≡◌, ℕ, ◌≤◌, List, [], ◌∷◌, �
 use Rattle.std.proofs.lemmas.List.{take_all, take-append-le}
 use Rattle.std.specs.Int.{cast_unsigned, w32}
 use Rattle.byteorder.specs.Endian.{little_bytes}
-use Rattle.artery_header.specs.Envelope.{Contents, numbers, tags, header_len, tag_of, recipient_at, manifest_at, IsFrontOf}
+use Rattle.artery_header.specs.Envelope.{EnvelopeOf, numbers, tags, header_len, tag_of, recipient_at, manifest_at, IsFrontOf}
 
 -- the cells of the numbers of a header
-pub number_cells : (c : Contents) (u s : List ℕ) → u ≡ little_bytes 8 c.uid → s ≡ little_bytes 4 (cast_unsigned w32 c.serializer)
+pub number_cells : (c : EnvelopeOf) (u s : List ℕ) → u ≡ little_bytes 8 c.uid → s ≡ little_bytes 4 (cast_unsigned w32 c.serializer)
     → 0 ∷ 0 ∷ c.refs_version ∷ c.manifests_version
     ∷ get_or u 0 0 ∷ get_or u 1 0 ∷ get_or u 2 0 ∷ get_or u 3 0 ∷ get_or u 4 0 ∷ get_or u 5 0 ∷ get_or u 6 0 ∷ get_or u 7 0
     ∷ get_or s 0 0 ∷ get_or s 1 0 ∷ get_or s 2 0 ∷ get_or s 3 0 ∷ [] ≡ numbers c
@@ -14,7 +14,7 @@ unfolding numbers
 number_cells c u s eu es = rw (eu, es) refl
 
 -- the cells of its tags
-pub tag_cells : (c : Contents) (a b d : List ℕ)
+pub tag_cells : (c : EnvelopeOf) (a b d : List ℕ)
     → a ≡ little_bytes 4 (tag_of header_len c.sender) → b ≡ little_bytes 4 (tag_of (recipient_at c) c.recipient) → d ≡ little_bytes 4 (tag_of (manifest_at c) c.manifest)
     → get_or a 0 0 ∷ get_or a 1 0 ∷ get_or a 2 0 ∷ get_or a 3 0
     ∷ get_or b 0 0 ∷ get_or b 1 0 ∷ get_or b 2 0 ∷ get_or b 3 0

@@ -7,13 +7,13 @@ use Rattle.std.specs.Int.{cast_signed, cast_unsigned, w32}
 use Rattle.byteorder.specs.Endian.{little_bytes, little_number}
 use Rattle.byteorder.specs.Numbers.{little_number-reads_back}
 use Rattle.artery_header.specs.declared.fault.EncodeFault.{EncodeFault}
-use Rattle.artery_header.specs.Envelope.{Named, Text, Number, Contents, IsLaidOut, HasTag, AreTexts, IsName, IsEnvelope, HasTexts, IsAsciiName, numbers, tags, header, header_len, first_index_tag, tag_of, recipient_at, manifest_at, spelled, spelled_len, canonical, refusal, is_long, literal_limit, read_of}
+use Rattle.artery_header.specs.Envelope.{NameOf, Literal, Index, EnvelopeOf, IsLaidOut, HasTag, AreTexts, IsName, IsEnvelope, HasTexts, IsAsciiName, numbers, tags, header, header_len, first_index_tag, tag_of, recipient_at, manifest_at, spelled, spelled_len, canonical, canonical_len, refusal, is_long, literal_limit, read_of}
 use Rattle.artery_header.proofs.Layouts.{laid_out_read}
 
 -- a name that is not too long stands in front of what follows
-names_written : (n : Named) (names : List Named) (payload rest : List ℕ) → is_long n ≡ false → IsAsciiName n → AreTexts names payload rest → AreTexts (n ∷ names) payload (spelled n ++ rest)
-names_written (Number i) names payload rest l a t = t
-names_written (Text text) names payload rest l a t =
+names_written : (n : NameOf) (names : List NameOf) (payload rest : List ℕ) → is_long n ≡ false → IsAsciiName n → AreTexts names payload rest → AreTexts (n ∷ names) payload (spelled n ++ rest)
+names_written (Index i) names payload rest l a t = t
+names_written (Literal text) names payload rest l a t =
     let short : length text ≤ literal_limit = ltb-false _ _ l in
     let group : (little_bytes 2 (length text) ++ text) ++ rest ≡ little_bytes 2 (length text) ++ (text ++ rest) = append_assoc (little_bytes 2 (length text)) text rest in
     let P : List ℕ → Type 0 = AreTexts names payload in (
@@ -26,17 +26,17 @@ names_written (Text text) names payload rest l a t =
       subst P (sym (drop_at (little_bytes 2 (length text) ++ text) rest (2 + length text) (length-append (little_bytes 2 (length text)) text))) t,
     )
 
-has_tag : (at : ℕ) (n : Named) → at < first_index_tag → IsName n → HasTag (tag_of at n) n
-has_tag at (Text text) h f = h
-has_tag at (Number i) h f = (omega arith, omega arith)
+has_tag : (at : ℕ) (n : NameOf) → at < first_index_tag → IsName n → HasTag (tag_of at n) n
+has_tag at (Literal text) h f = h
+has_tag at (Index i) h f = (omega arith, omega arith)
 
-tag_fits : (at : ℕ) (n : Named) → at < first_index_tag → IsName n → tag_of at n < 4294967296
-tag_fits at (Text text) h f = omega arith
-tag_fits at (Number i) h f = omega arith
+tag_fits : (at : ℕ) (n : NameOf) → at < first_index_tag → IsName n → tag_of at n < 4294967296
+tag_fits at (Literal text) h f = omega arith
+tag_fits at (Index i) h f = omega arith
 
-small_name : (n : Named) → is_long n ≡ false → spelled_len n ≤ 65537
-small_name (Text text) l = omega (arith, ltb-false literal_limit (length text) l)
-small_name (Number i) l = omega arith
+small_name : (n : NameOf) → is_long n ≡ false → spelled_len n ≤ 65537
+small_name (Literal text) l = omega (arith, ltb-false literal_limit (length text) l)
+small_name (Index i) l = omega arith
 
 -- what is not refused has no long name
 none_long : (a b d e : Bool) (w x y z : EncodeFault) → cond a (Some w) (cond b (Some x) (cond d (Some y) (cond e (Some z) None))) ≡ None → (a ≡ false) × (b ≡ false) × (d ≡ false)
@@ -45,7 +45,7 @@ none_long false true d e w x y z h = absurd (cc)
 none_long false false true e w x y z h = absurd (cc)
 none_long false false false e w x y z h = (refl, refl, refl)
 
-pub short_names : (c : Contents) → refusal c ≡ None → (is_long c.sender ≡ false) × (is_long c.recipient ≡ false) × (is_long c.manifest ≡ false)
+pub short_names : (c : EnvelopeOf) → refusal c ≡ None → (is_long c.sender ≡ false) × (is_long c.recipient ≡ false) × (is_long c.manifest ≡ false)
 short_names c h = none_long (is_long c.sender) (is_long c.recipient) (is_long c.manifest) _ _ _ _ _ h
 
 -- the signed number is read again
@@ -55,12 +55,12 @@ signed_again z f = to_z-of_z w32 z f
 unsigned_fits : (z : ℤ) → FitsSigned w32 z → cast_unsigned w32 z < 4294967296
 unsigned_fits z f = omega (arith, ints)
 
-canonical_laid_out : (c : Contents) → IsEnvelope c → HasTexts c → (is_long c.sender ≡ false) × (is_long c.recipient ≡ false) × (is_long c.manifest ≡ false) → IsLaidOut (canonical c) c
+canonical_laid_out : (c : EnvelopeOf) → IsEnvelope c → HasTexts c → (is_long c.sender ≡ false) × (is_long c.recipient ≡ false) × (is_long c.manifest ≡ false) → IsLaidOut (canonical c) c
 unfolding numbers tags
 canonical_laid_out c v t s =
     let at_recipient : recipient_at c < first_index_tag = omega (arith, small_name c.sender s.0) in
     let at_manifest : manifest_at c < first_index_tag = omega (arith, small_name c.sender s.0, small_name c.recipient s.1) in
-    let tag = λ (at : ℕ) (n : Named) (h : at < first_index_tag) (f : IsName n). let P : ℕ → Type 0 = λ k. HasTag k n in subst P (sym (little_number-reads_back 4 (tag_of at n) [] (tag_fits at n h f))) (has_tag at n h f) in
+    let tag = λ (at : ℕ) (n : NameOf) (h : at < first_index_tag) (f : IsName n). let P : ℕ → Type 0 = λ k. HasTag k n in subst P (sym (little_number-reads_back 4 (tag_of at n) [] (tag_fits at n h f))) (has_tag at n h f) in
     let texts : List ℕ = spelled c.sender ++ (spelled c.recipient ++ (spelled c.manifest ++ c.payload)) in
     let P : List ℕ → Type 0 = AreTexts (c.sender ∷ c.recipient ∷ c.manifest ∷ []) c.payload in
     let group : texts ≡ ((spelled c.sender ++ spelled c.recipient) ++ spelled c.manifest) ++ c.payload = simp append_assoc in
@@ -79,5 +79,34 @@ canonical_laid_out c v t s =
     }
 
 -- the canonical bytes of an envelope that is not refused are read as it
-pub written_read : (c : Contents) → IsEnvelope c → HasTexts c → refusal c ≡ None → read_of (canonical c) ≡ Ok c
+pub written_read : (c : EnvelopeOf) → IsEnvelope c → HasTexts c → refusal c ≡ None → read_of (canonical c) ≡ Ok c
 written_read c v t n = laid_out_read (canonical c) c (canonical_laid_out c v t (short_names c n))
+
+-- the same, for what was appended
+pub read_back : (old new : List ℕ) (c : EnvelopeOf) → new ≡ old ++ canonical c → IsEnvelope c → HasTexts c → refusal c ≡ None → read_of (drop (length old) new) ≡ Ok c
+read_back old new c e v t n = ap (λ (w : List ℕ). read_of (drop (length old) w)) e ∙ ap read_of (drop_at old (canonical c) (length old) refl) ∙ written_read c v t n
+
+-- so many bytes are written
+spelled_is : (n : NameOf) → length (spelled n) ≡ spelled_len n
+spelled_is (Literal text) = omega (arith, length-append (little_bytes 2 (length text)) text)
+spelled_is (Index i) = refl
+
+header_is : (c : EnvelopeOf) → length (header c) ≡ 28
+unfolding numbers tags
+header_is c = refl
+
+pub canonical_length : (c : EnvelopeOf) → length (canonical c) ≡ canonical_len c
+canonical_length c =
+    let group : canonical c ≡ header c ++ (spelled c.sender ++ (spelled c.recipient ++ (spelled c.manifest ++ c.payload))) = simp append_assoc in
+    omega (
+      arith,
+      ap length group,
+      header_is c,
+      length-append (header c) (spelled c.sender ++ (spelled c.recipient ++ (spelled c.manifest ++ c.payload))),
+      length-append (spelled c.sender) (spelled c.recipient ++ (spelled c.manifest ++ c.payload)),
+      length-append (spelled c.recipient) (spelled c.manifest ++ c.payload),
+      length-append (spelled c.manifest) c.payload,
+      spelled_is c.sender,
+      spelled_is c.recipient,
+      spelled_is c.manifest,
+    )

@@ -1,1 +1,2 @@
 pub mod Envelope
+pub mod FirstFault

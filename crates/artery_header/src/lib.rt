@@ -14,6 +14,6 @@ mod write;
 
 pub use envelope::{Envelope, Name, Which};
 pub use fault::{EncodeFault, HeaderFault};
-pub use laws::written_is_read;
+pub use laws::{limits_stand, one_reading, written_is_read};
 pub use read::read_envelope;
-pub use write::{FRAME_LIMIT, LITERAL_LIMIT, write_envelope};
+pub use write::{FRAME_LIMIT, LITERAL_LIMIT, write_envelope, written_len};

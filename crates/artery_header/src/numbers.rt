@@ -42,5 +42,9 @@ pub fn u64_at(bytes: &[u8], at: usize) -> u64
 pub fn is_text(bytes: &[u8]) -> bool
     ensures { result ≡ is_text bytes.now }
 {
-    bytes.iter().all(|byte| *byte < 128)
+    let mut ascii = true;
+    for byte in bytes {
+        ascii &= *byte < 128;
+    }
+    ascii
 }

@@ -1,5 +1,7 @@
-ghost use Rattle.std.specs.Prelude.{◌≡◌, ◌+◌, ◌≤◌, ℕ, List, length, drop, IfOk, Ok};
-ghost use Rattle.artery_header.specs.Envelope.{Contents, IsLaidOut, HasTexts, Gives, contents, named, text_at, name_at, body_of, read_of};
+ghost use Rattle.std.specs.Prelude.{◌≡◌, ◌+◌, ◌≤◌, ℕ, List, length, drop, IfOk, IfErr, Ok, Err};
+ghost use Rattle.artery_base.specs.Words.{Shows};
+ghost use Rattle.artery_header.specs.FirstFault.{IsFirstFault};
+ghost use Rattle.artery_header.specs.Envelope.{EnvelopeOf, IsLaidOut, HasTexts, envelope_of, name_of, text_at, name_at, body_of, read_of};
 
 use crate::envelope::{Envelope, Name, Which};
 use crate::fault::HeaderFault;
@@ -17,7 +19,7 @@ const METADATA_FLAG: u8 = 1;
 /// The text at the front, and the bytes behind it.
 #[tactic(auto, unfolding(crate::specs::Envelope::text_at))]
 fn text_at(which: Which, bytes: &[u8]) -> Result<(Name<'_>, &[u8]), HeaderFault>
-    ensures { Gives (λ x. (named x.0, x.1.now)) result (text_at which bytes.now) }
+    ensures { Shows (λ x. (name_of x.0, x.1.now)) result (text_at which bytes.now) }
 {
     if bytes.len() < 2 {
         return Err(HeaderFault::LiteralPast { which });
@@ -38,7 +40,7 @@ fn text_at(which: Which, bytes: &[u8]) -> Result<(Name<'_>, &[u8]), HeaderFault>
 /// The name with this tag, and the bytes behind its text, if it has one.
 #[tactic(auto, unfolding(crate::specs::Envelope::name_at))]
 fn name_at(which: Which, tag: u32, bytes: &[u8]) -> Result<(Name<'_>, &[u8]), HeaderFault>
-    ensures { Gives (λ x. (named x.0, x.1.now)) result (name_at which tag bytes.now) }
+    ensures { Shows (λ x. (name_of x.0, x.1.now)) result (name_at which tag bytes.now) }
 {
     if tag < FIRST_INDEX_TAG {
         text_at(which, bytes)
@@ -51,7 +53,7 @@ fn name_at(which: Which, tag: u32, bytes: &[u8]) -> Result<(Name<'_>, &[u8]), He
 #[tactic(auto, unfolding(crate::specs::Envelope::body_of))]
 fn body_of<'a>(bytes: &'a [u8], texts: &'a [u8]) -> Result<Envelope<'a>, HeaderFault>
     requires { 28 ≤ length bytes.now }
-    ensures { Gives contents result (body_of bytes.now texts.now) }
+    ensures { Shows envelope_of result (body_of bytes.now texts.now) }
 {
     let (sender, rest) = name_at(Which::Sender, u32_at(bytes, 16), texts)?;
     let (recipient, rest) = name_at(Which::Recipient, u32_at(bytes, 20), rest)?;
@@ -71,7 +73,7 @@ fn body_of<'a>(bytes: &'a [u8], texts: &'a [u8]) -> Result<Envelope<'a>, HeaderF
 /// The envelope or the first fault, by the definition.
 #[tactic(auto, unfolding(crate::specs::Envelope::read_of))]
 fn read_exactly(bytes: &[u8]) -> Result<Envelope<'_>, HeaderFault>
-    ensures { Gives contents result (read_of bytes.now) }
+    ensures { Shows envelope_of result (read_of bytes.now) }
 {
     if bytes.len() < HEADER_LEN {
         return Err(HeaderFault::Short { len: bytes.len() });
@@ -89,10 +91,12 @@ fn read_exactly(bytes: &[u8]) -> Result<Envelope<'_>, HeaderFault>
 /// `Short`, `Version`, `Metadata`, and then for the literal of the sender, the recipient and the manifest
 /// in turn `LiteralPast` and `NotAscii`. Takes no memory.
 pub fn read_envelope(bytes: &[u8]) -> Result<Envelope<'_>, HeaderFault>
-    ensures found { IfOk result (λ e. IsLaidOut bytes.now (contents e)) }
-    ensures only { (c : Contents) → IsLaidOut bytes.now c → Gives contents result (Ok c) }
-    ensures texts { IfOk result (λ e. HasTexts (contents e)) }
-    ensures exact { Gives contents result (read_of bytes.now) }
+    ensures found { IfOk result (λ e. IsLaidOut bytes.now (envelope_of e)) }
+    ensures only { (e : EnvelopeOf) → IsLaidOut bytes.now e → Shows envelope_of result (Ok e) }
+    ensures fault { IfErr result (IsFirstFault bytes.now) }
+    ensures refused { (fault : HeaderFault) → IsFirstFault bytes.now fault → result ≡ Err fault }
+    ensures texts { IfOk result (λ e. HasTexts (envelope_of e)) }
+    ensures exact { Shows envelope_of result (read_of bytes.now) }
 {
     read_exactly(bytes)
 }

@@ -54,7 +54,9 @@ fn envelopes_are_read_and_written(rt: HostRuntime) -> Result<(), AllocError> {
         assert!(rt; write_envelope(&envelope, &mut out).is_ok());
         assert_eq!(rt; out.as_slice(), bytes);
     }
+    one_reading();
     written_is_read();
+    limits_stand();
     Ok(())
 }
 

@@ -8,11 +8,10 @@ use Rattle.std.proofs.lemmas.Bool.Decides.{nat_tests}
 use Rattle.std.proofs.lemmas.List.{length-drop}
 use Rattle.std.proofs.lemmas.List.Splits.{slice_split_first, slice_split-cons_no, slice_split-cons_yes, length-slice_split}
 use Rattle.artery_base.specs.declared.address.Address.{Address}
-use Rattle.artery_base.specs.declared.fault.AddressFault.{AddressFault}
-use Rattle.artery_base.specs.declared.fault.WordFault.{WordFault}
-use Rattle.artery_base.specs.Reading.{Gives, Unless, address_memory, word_memory}
-use Rattle.artery_base.proofs.HexPairs.{when_some, not_zero}
-use Rattle.artery_base.proofs.Places.{position_none}
+use Rattle.artery_text.specs.declared.fault.AddressFault.{AddressFault}
+use Rattle.artery_text.specs.declared.fault.WordFault.{WordFault}
+use Rattle.artery_text.specs.Reading.{Gives, Unless, address_memory, word_memory}
+use Rattle.artery_lines.proofs.Firsts.{position_none, when_some, not_zero}
 use Rattle.artery_lines.specs.Lines.{is_space, tokens_of, is_feed, lines_of, without_empty_end, Tells, line_fault, ◌>>=◌}
 
 -- ---- parts

@@ -30,6 +30,10 @@ without_empty_end (line ∷ next ∷ rest) = line ∷ without_empty_end (next �
 abbrev pub lines_of : List ℕ → List (List ℕ)
 lines_of text = without_empty_end (slice_split is_feed text)
 
+-- at most 1,000,000 lines are read
+abbrev pub most_lines : ℕ
+most_lines = 1000000
+
 -- ---- what a line tells
 
 -- what was read, where no token is left; with a token too many the line tells nothing

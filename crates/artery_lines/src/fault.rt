@@ -1,9 +1,10 @@
 ghost use Rattle.std.specs.Prelude.{◌≡◌};
-ghost use Rattle.artery_base.specs.Reading.{address_memory, word_memory};
+ghost use Rattle.artery_text.specs.Reading.{address_memory, word_memory};
 ghost use Rattle.artery_lines.specs.Lines.{line_fault};
 ghost use Rattle.artery_lines.specs.declared.fault.LineFault.TheVariants as line_faults;
 
-use artery_base::{AddressFault, NoMemory, WordFault};
+use artery_base::NoMemory;
+use artery_text::{AddressFault, WordFault};
 
 /// Why a line does not tell what is to be read from it.
 #[derive(Clone, Copy, Debug, PartialEq, Eq)]

@@ -1,5 +1,5 @@
 ghost use Rattle.std.specs.Prelude.{◌≡◌, ℕ, ◌<◌, [], ◌∷◌, length, position, IfSome, IfNone, not, nat_lt};
-ghost use Rattle.artery_lines.specs.declared.lines.TheConstants.{MOST_LINES};
+ghost use Rattle.artery_lines.specs.Lines.{most_lines};
 ghost use Rattle.artery_lines.specs.Lines.{is_feed, lines_of};
 
 use crate::tokens::{after, before};
@@ -60,7 +60,7 @@ fn find_feed(text: &[u8]) -> Option<usize>
 
 /// Whether a text has at most 1,000,000 lines.
 pub fn has_few_lines(text: &[u8]) -> bool
-    ensures { result ≡ not (nat_lt MOST_LINES (length (lines_of text.now))) }
+    ensures { result ≡ not (nat_lt most_lines (length (lines_of text.now))) }
 {
     let mut left = TextLines::new(text);
     let mut count = 0;

@@ -2,7 +2,7 @@
 use Rattle.std.proofs.Common.{◌≡◌, ℕ, ◌+◌, Bool, true, false, List, [], ◌∷◌, ◌++◌, Option, Some, None, Result, Ok, Err, refl, sym, ap, subst, ◌∙◌, append_assoc}
 use Rattle.std.specs.Prelude.{option_map}
 use Rattle.std.proofs.lemmas.List.{append-nil}
-use Rattle.artery_base.specs.Reading.{Gives, Unless}
+use Rattle.artery_text.specs.Reading.{Gives, Unless}
 use Rattle.artery_frame.specs.Stream.{preamble}
 use Rattle.artery_making.specs.declared.fault.MakeFault.{MakeFault}
 use Rattle.artery_making.specs.Made.{frame_told, stream_told, told_at, at_line, before_others, frames_from, stream_from, make_memory}

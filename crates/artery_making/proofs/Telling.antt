@@ -2,26 +2,29 @@
 use Rattle.std.proofs.Common.{◌≡◌, ℕ, ◌≤◌, Bool, true, false, eqb, List, [], ◌∷◌, length, drop, Option, Result, Err, refl, sym, ap, subst, ◌∙◌, arith}
 use Rattle.std.specs.Prelude.{slice_index}
 use Rattle.std.specs.Result.{result_ok}
-use Rattle.artery_base.specs.declared.fault.WordFault.{WordFault}
-use Rattle.artery_base.specs.Reading.{Gives, word_memory}
-use Rattle.artery_header.specs.Envelope.{Named}
+use Rattle.artery_text.specs.declared.fault.WordFault.{WordFault}
+use Rattle.artery_text.specs.Reading.{Gives, Unless, word_memory}
+use Rattle.artery_header.specs.Envelope.{NameOf as Named}
 use Rattle.artery_lines.specs.declared.fault.LineFault.{LineFault}
 use Rattle.artery_lines.specs.Lines.{Tells, line_fault, ◌>>=◌}
-use Rattle.artery_lines.proofs.Cuts.{told_part, stays_none}
 use Rattle.artery_making.specs.declared.told.ToldName.{ToldName}
 use Rattle.artery_making.specs.Made.{TellsAs, ascii_name, index_told, literal_told, name_told, told_name}
 
-as_told : {X A : Type 0} (view : X → A) (b : Bool) (o : Option A) → Tells (Err (line_fault b)) o → TellsAs view (Err (line_fault b)) o
-as_told view true o h = tt
-as_told view false o h = h
-
 -- a fault of hexadecimal, as one of the line
 pub tells_hex : (e : WordFault) (read : Result (List ℕ) WordFault) → Gives word_memory (Err e) read → Tells (Err (line_fault (word_memory e))) (result_ok read)
-tells_hex e read h = told_part (word_memory e) e read h
+tells_hex e read h = by (word_memory e) h
+  where
+    by : (b : Bool) → Unless b (read ≡ Err e) → Tells (Err (line_fault b)) (result_ok read)
+    by true h = tt
+    by false h = ap result_ok h
 
 -- the same for a word that is a literal
 pub tells_literal : (e : WordFault) (read : Result (List ℕ) WordFault) → Gives word_memory (Err e) read → TellsAs told_name (Err (line_fault (word_memory e))) (result_ok read >>= ascii_name)
-tells_literal e read h = as_told told_name (word_memory e) (result_ok read >>= ascii_name) (stays_none (word_memory e) (result_ok read) ascii_name (told_part (word_memory e) e read h))
+tells_literal e read h = by (word_memory e) h
+  where
+    by : (b : Bool) → Unless b (read ≡ Err e) → TellsAs told_name (Err (line_fault b)) (result_ok read >>= ascii_name)
+    by true h = tt
+    by false h = ap (λ (r : Result (List ℕ) WordFault). result_ok r >>= ascii_name) h
 
 is_index : (b : ℕ) (rest : List ℕ) → eqb b 64 ≡ true → name_told (b ∷ rest) ≡ index_told rest
 is_index b rest h = rw h refl

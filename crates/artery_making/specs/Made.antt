@@ -1,20 +1,20 @@
 -- The bytes of a connection that lines describe.
 use Rattle.std.specs.Prelude.{◌≡◌, ℕ, ◌+◌, ◌==◌, nat_lt, if◌then◌else◌, Bool, true, false, List, [], ◌∷◌, ◌++◌, length, codes, bytes_eq, Option, Some, None, option_map, Result, Ok, Err}
 use Rattle.std.specs.Result.{result_ok}
-use Rattle.artery_base.specs.Reading.{number_of, int32_of, hex_of, word_of}
+use Rattle.artery_text.specs.Reading.{number_of, int32_of, hex_of, word_of}
 use Rattle.artery_frame.specs.declared.stream.Stream.{Stream}
 use Rattle.artery_frame.specs.declared.stream.Stream.TheVariants.{Control, Ordinary}
 use Rattle.artery_frame.specs.Stream.{preamble, framed}
 use Rattle.artery_header.specs.declared.fault.EncodeFault.{EncodeFault}
 use Rattle.artery_header.specs.declared.fault.EncodeFault.TheVariants as encode_faults
-use Rattle.artery_header.specs.Envelope.{Named, Text, Number, Contents, is_text, canonical, refusal}
+use Rattle.artery_header.specs.Envelope.{NameOf as Named, Literal as Text, Index as Number, EnvelopeOf as Contents, is_text, canonical, refusal}
 use Rattle.artery_lines.specs.Lines.{lines_of, tokens_of, at_end, ◌>>=◌}
 use Rattle.artery_lines.specs.declared.fault.LineFault.{LineFault}
 use Rattle.artery_lines.specs.declared.fault.LineFault.TheVariants as line_faults
 use Rattle.artery_making.specs.declared.told.ToldName.{ToldName}
 use Rattle.artery_making.specs.declared.told.ToldName.TheVariants as told_names
 use Rattle.artery_making.specs.declared.told.ToldFrame.{ToldFrame}
-use Rattle.artery_lines.specs.declared.lines.TheConstants.{MOST_LINES}
+use Rattle.artery_lines.specs.Lines.{most_lines}
 use Rattle.artery_making.specs.declared.fault.MakeFault.{MakeFault}
 use Rattle.artery_making.specs.declared.fault.MakeFault.TheVariants.{BadLine, TooManyLines, NoMemory}
 
@@ -113,7 +113,7 @@ stream_from (line ∷ lines) = at_line 1 (option_map preamble (stream_told line)
 
 -- the bytes that a text tells, or its first fault
 abbrev pub stream_made : List ℕ → Result (List ℕ) MakeFault
-stream_made text = if nat_lt MOST_LINES (length (lines_of text)) then Err TooManyLines else stream_from (lines_of text)
+stream_made text = if nat_lt most_lines (length (lines_of text)) then Err TooManyLines else stream_from (lines_of text)
 
 -- whether a fault says that memory ran out
 abbrev pub make_memory : MakeFault → Bool
@@ -152,6 +152,12 @@ abbrev pub TellsNext : {X A : Type 0} → (X → A) → Result X LineFault → L
 TellsNext view (Ok x) left told = told ≡ Some (view x, left)
 TellsNext view (Err line_faults.BadLine) left told = told ≡ None
 TellsNext view (Err line_faults.NoMemory) left told = Unit {0}
+
+-- the bytes that are told were added to the old ones, unless memory ran out
+abbrev pub Adds : Result Unit LineFault → List ℕ → List ℕ → Option (List ℕ) → Type 0
+Adds (Ok done) old new told = option_map (λ bytes. old ++ bytes) told ≡ Some new
+Adds (Err line_faults.BadLine) old new told = told ≡ None
+Adds (Err line_faults.NoMemory) old new told = Unit {0}
 
 -- whether a fault of writing an envelope says that memory ran out
 abbrev pub encode_memory : EncodeFault → Bool

@@ -1,17 +1,17 @@
 //! The bytes of a stream, made line by line.
-ghost use Rattle.std.specs.Prelude.{◌≡◌, ◌≤◌, ◌++◌, [], length, option_map};
-ghost use Rattle.artery_base.specs.Reading.{Gives};
+ghost use Rattle.std.specs.Prelude.{◌≡◌, ◌≤◌, ◌++◌, [], false, length, option_map, None, Some, OnOk, IfErr};
+ghost use Rattle.artery_text.specs.Reading.{Gives};
 ghost use Rattle.artery_frame.specs.Stream.{preamble, framed};
-ghost use Rattle.artery_header.specs.Envelope.{HasTexts, contents, refusal, named as header_named};
-ghost use Rattle.artery_lines.specs.Lines.{Tells, line_fault, lines_of};
-ghost use Rattle.artery_lines.specs.declared.lines.TheConstants.{MOST_LINES};
-ghost use Rattle.artery_making.specs.Made.{told_name, told_contents, canonical_unless, encode_memory, envelope_told, frame_told, stream_told, told_at, added, before_others, frames_from, stream_from, stream_made, make_memory};
+ghost use Rattle.artery_header.specs.Envelope.{HasTexts, canonical, envelope_of as contents, refusal, name_of as header_named};
+ghost use Rattle.artery_lines.specs.Lines.{line_fault, lines_of};
+ghost use Rattle.artery_lines.specs.Lines.{most_lines};
+ghost use Rattle.artery_making.specs.Made.{told_name, told_contents, Adds, canonical_unless, encode_memory, frame_told, stream_told, told_at, added, before_others, frames_from, stream_from, stream_made, make_memory};
 
 use crate::fault::MakeFault;
 use crate::told::{ToldFrame, ToldName, read_frame};
 use artery_base::Bytes;
-use artery_frame::{Stream, write_frame, write_preamble};
-use artery_header::{EncodeFault, Envelope, Name, write_envelope};
+use artery_frame::{Stream, write_preamble};
+use artery_header::{EncodeFault, Envelope, Name, write_envelope, written_len};
 use artery_lines::{LineFault, TextLines, has_few_lines};
 use std::alloc::Global;
 
@@ -49,39 +49,43 @@ fn fault_of(fault: EncodeFault) -> LineFault
     }
 }
 
-#[tactic(auto, using(crate::proofs::Bytes::written, crate::proofs::Bytes::refused))]
-fn encoded(alloc: Global, envelope: &Envelope<'_>) -> Result<Bytes, LineFault>
+/// Appends the frame of an envelope, whose bytes are written where they stay. What fails may leave a front of it.
+#[tactic(auto, using(crate::proofs::Bytes::framed_here))]
+fn append_envelope(envelope: &Envelope<'_>, out: &mut Bytes) -> Result<(), EncodeFault>
     requires { HasTexts (contents envelope.now) }
-    ensures { Tells result (canonical_unless (contents envelope.now) (refusal (contents envelope.now))) }
+    ensures ok { OnOk result (out.new ≡ out.old ++ framed (canonical (contents envelope.now))) }
+    ensures written { OnOk result (refusal (contents envelope.now) ≡ None) }
+    ensures refused { IfErr result (λ fault. encode_memory fault ≡ false → refusal (contents envelope.now) ≡ Some fault) }
 {
-    let mut bytes = Bytes::new(alloc);
-    if let Err(fault) = write_envelope(envelope, &mut bytes) {
-        return Err(fault_of(fault));
-    }
-    Ok(bytes)
+    let len = written_len(envelope)? as u32;
+    out.extend_from_slice(&len.to_le_bytes())?;
+    write_envelope(envelope, out)
 }
 
-fn frame_bytes(alloc: Global, frame: &ToldFrame) -> Result<Bytes, LineFault>
+#[tactic(auto, using(crate::proofs::Bytes::added_frame, crate::proofs::Bytes::refused_frame))]
+fn append_frame(frame: &ToldFrame, out: &mut Bytes) -> Result<(), LineFault>
     requires { HasTexts (told_contents frame.now) }
-    ensures { Tells result (canonical_unless (told_contents frame.now) (refusal (told_contents frame.now))) }
+    ensures { Adds result out.old out.new (option_map framed (canonical_unless (told_contents frame.now) (refusal (told_contents frame.now)))) }
 {
     let envelope = envelope_of(frame);
-    encoded(alloc, &envelope)
+    match append_envelope(&envelope, out) {
+        Ok(()) => Ok(()),
+        Err(fault) => Err(fault_of(fault)),
+    }
 }
 
-fn envelope_bytes(alloc: Global, line: &[u8]) -> Result<Bytes, LineFault>
-    ensures { Tells result (envelope_told line.now) }
+fn append_told(alloc: Global, line: &[u8], out: &mut Bytes) -> Result<(), LineFault>
+    ensures { Adds result out.old out.new (frame_told line.now) }
 {
     let frame = read_frame(alloc, line)?;
-    frame_bytes(alloc, &frame)
+    append_frame(&frame, out)
 }
 
-#[tactic(auto, using(crate::proofs::Bytes::told_small))]
 fn append_line(alloc: Global, n: u64, line: &[u8], out: &mut Bytes) -> Result<(), MakeFault>
     ensures { Gives make_memory (added result out.new) (told_at n (option_map (λ bytes. out.old ++ bytes) (frame_told line.now))) }
 {
-    match envelope_bytes(alloc, line) {
-        Ok(bytes) => Ok(write_frame(bytes.as_slice(), out)?),
+    match append_told(alloc, line, out) {
+        Ok(()) => Ok(()),
         Err(LineFault::BadLine) => Err(MakeFault::BadLine { line: n }),
         Err(LineFault::NoMemory) => Err(MakeFault::NoMemory),
     }
@@ -89,7 +93,7 @@ fn append_line(alloc: Global, n: u64, line: &[u8], out: &mut Bytes) -> Result<()
 
 #[tactic(auto, using(crate::proofs::Lines::line_on, crate::proofs::Lines::line_fails, crate::proofs::Lines::lines_end))]
 fn append_frames(alloc: Global, front: Bytes, lines: TextLines<'_>) -> Result<Bytes, MakeFault>
-    requires { length lines ≤ MOST_LINES }
+    requires { length lines ≤ most_lines }
     ensures { Gives make_memory result (before_others front (frames_from 2 lines.entry)) }
 {
     let mut left = lines;
@@ -127,7 +131,7 @@ fn begin_stream(alloc: Global, line: &[u8]) -> Result<Bytes, MakeFault>
 
 #[tactic(auto, using(crate::proofs::Lines::begun, crate::proofs::Lines::not_begun))]
 fn make_lines(alloc: Global, text: &[u8]) -> Result<Bytes, MakeFault>
-    requires { length (lines_of text.now) ≤ MOST_LINES }
+    requires { length (lines_of text.now) ≤ most_lines }
     ensures { Gives make_memory result (stream_from (lines_of text.now)) }
 {
     let mut lines = TextLines::new(text);

@@ -1,5 +1,6 @@
 use super::*;
-use artery_base::{Bytes, read_hex};
+use artery_base::Bytes;
+use artery_text::read_hex;
 use std::alloc::Global;
 use std::test::*;
 

@@ -1,12 +1,13 @@
 //! A line that describes a frame, and what each of its tokens tells.
 ghost use Rattle.std.specs.Prelude.{◌≡◌, IfOk};
-ghost use Rattle.artery_base.specs.Reading.{number_of, int32_of};
+ghost use Rattle.artery_text.specs.Reading.{number_of, int32_of};
 ghost use Rattle.artery_header.specs.Envelope.{HasTexts, IsAsciiName, is_text};
 ghost use Rattle.artery_lines.specs.Lines.{Tells};
 ghost use Rattle.artery_making.specs.Made.{TellsAs, TellsNext, next_told, version_told, payload_told, index_told, literal_told, name_told, fields_told, contents_told, told_name, told_contents};
 
-use artery_base::{Bytes, read_hex, read_int32, read_number, read_word};
+use artery_base::Bytes;
 use artery_lines::{LineFault, Tokens};
+use artery_text::{read_hex, read_int32, read_number, read_word};
 use std::alloc::Global;
 
 /// A name as a token tells it.

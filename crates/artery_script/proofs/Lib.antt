@@ -1,2 +1,7 @@
-pub mod Events
-pub mod EventLaws
+pub mod Told
+pub mod Items
+pub mod Formats
+pub mod FieldLaws
+pub mod ActorLaws
+pub mod LineLaws
+pub mod Found

@@ -1,10 +1,8 @@
 ghost use Rattle.std.specs.Prelude.{◌≡◌, ◌≤◌, ◌==◌, [], ◌∷◌, ◌++◌, length, OnOk, OnErr};
-ghost use Rattle.artery_base.specs.Reading.{Gives};
-ghost use Rattle.artery_script.specs.declared.script.ScriptLine.{ScriptLine};
-ghost use Rattle.artery_script.specs.declared.script.ScriptFault.TheVariants as script_faults;
-ghost use Rattle.artery_lines.specs.declared.lines.TheConstants.{MOST_LINES};
+ghost use Rattle.artery_base.specs.Words.{Gives};
 ghost use Rattle.artery_lines.specs.Lines.{lines_of};
-ghost use Rattle.artery_script.specs.Script.{is_passed_over, event_of, told_at, events_from, script_of, script_memory};
+ghost use Rattle.artery_script.specs.declared.script.ScriptFault.TheVariants as script_faults;
+ghost use Rattle.artery_script.specs.Scripts.{most_lines, is_passed_over, script_line, told_at, items_from, script_of, script_memory};
 
 use crate::event::Event;
 use crate::event_text::read_event;
@@ -13,19 +11,20 @@ use artery_lines::{LineFault, TextLines, has_few_lines};
 use std::alloc::Global;
 use std::marker::Model;
 
-/// A line of a script: its number, counted from 1, and what it tells.
+/// A line of a script: its number and what it tells.
 #[derive(Clone, Debug, PartialEq, Eq, Drop)]
 pub struct ScriptLine {
-    /// The number of the line in the text, empty lines and remarks counted.
+    /// The number of the line in the text, counted from 1, empty lines and remarks counted.
     pub line: u64,
     /// What happens.
     pub event: Event,
 }
 
-/// Why a text is no script.
+/// Why a text is no script, or no input of a node.
 #[derive(Clone, Copy, Debug, PartialEq, Eq)]
 pub enum ScriptFault {
-    /// The first line that is neither empty nor a remark and tells no event, counted from 1.
+    /// The first line, counted from 1, that is neither empty nor a remark and does not tell what it
+    /// is read for.
     BadLine { line: u64 },
     /// There are more than 1,000,000 lines.
     TooManyLines,
@@ -97,7 +96,8 @@ impl Script {
     }
 }
 
-fn is_passed_over(line: &[u8]) -> bool
+// Whether a line is empty or a remark.
+pub(crate) fn is_passed_over(line: &[u8]) -> bool
     ensures { result ≡ is_passed_over line.now }
 {
     if line.is_empty() {
@@ -106,20 +106,20 @@ fn is_passed_over(line: &[u8]) -> bool
     line[0] == b'#'
 }
 
-fn event_at(alloc: Global, n: u64, line: &[u8]) -> Result<Event, ScriptFault>
-    ensures { Gives script_memory result (told_at n (event_of line.now)) }
+fn line_at(alloc: Global, n: u64, text: &[u8]) -> Result<ScriptLine, ScriptFault>
+    ensures { Gives script_memory result (told_at n (script_line n text.now)) }
 {
-    match read_event(alloc, line) {
-        Ok(event) => Ok(event),
+    match read_event(alloc, text) {
+        Ok(event) => Ok(ScriptLine { line: n, event }),
         Err(LineFault::BadLine) => Err(ScriptFault::BadLine { line: n }),
         Err(LineFault::NoMemory) => Err(ScriptFault::NoMemory),
     }
 }
 
-#[tactic(auto, using(crate::proofs::Events::passed_on, crate::proofs::Events::event_on, crate::proofs::Events::event_fails, crate::proofs::Events::events_end))]
+#[tactic(auto, using(crate::proofs::Items::event_passed, crate::proofs::Items::event_on, crate::proofs::Items::event_fails, crate::proofs::Items::events_end))]
 fn read_lines(alloc: Global, text: &[u8]) -> Result<Script, ScriptFault>
-    requires { length (lines_of text.now) ≤ MOST_LINES }
-    ensures { Gives script_memory result (events_from 1 (lines_of text.now)) }
+    requires { length (lines_of text.now) ≤ most_lines }
+    ensures { Gives script_memory result (items_from script_line 1 (lines_of text.now)) }
 {
     let mut left = TextLines::new(text);
     let mut script = Script::new(alloc);
@@ -129,8 +129,8 @@ fn read_lines(alloc: Global, text: &[u8]) -> Result<Script, ScriptFault>
         if is_passed_over(line) {
             continue;
         }
-        let event = event_at(alloc, n, line)?;
-        script.push(ScriptLine { line: n, event })?;
+        let item = line_at(alloc, n, line)?;
+        script.push(item)?;
     }
     Ok(script)
 }

@@ -1,7 +1,7 @@
 //! What the vectors are by the definitions of the crates below. Their functions do nothing.
 ghost use Rattle.std.specs.Prelude.{◌≡◌, ◌-◌, ◌^◌, [], ◌∷◌, pos, drop, Ok};
 ghost use Rattle.artery_frame.specs.Stream.{framed};
-ghost use Rattle.artery_header.specs.Envelope.{Text, Number, read_of};
+ghost use Rattle.artery_header.specs.Envelope.{Literal, Index, read_of};
 ghost use Rattle.artery_vectors.specs.declared.fields.TheConstants.{NEGATIVE_SERIALIZER, VALUES};
 ghost use Rattle.artery_vectors.specs.declared.frames.TheConstants.{HANDSHAKE_REQUEST, HANDSHAKE_ANSWER, NUMBERED_MESSAGE, ACKNOWLEDGEMENT, SECOND_TELL};
 ghost use Rattle.artery_wire.specs.Writing.{field_bytes, record_bytes, uint_field};
@@ -28,5 +28,5 @@ pub fn fields_are_written()
 /// serializer 4, without a sender, for the first reference and with the first manifest, and payload 00ff.
 #[tactic(auto, unfolding(artery_header::specs::Envelope::read_of, artery_header::specs::Envelope::body_of, artery_header::specs::Envelope::name_at, artery_header::specs::Envelope::text_at))]
 pub fn second_tell_is_read()
-    ensures { read_of (drop 4 SECOND_TELL) ≡ Ok (record { uid = 1; refs_version = 1; manifests_version = 1; serializer = pos 4; sender = Text []; recipient = Number 0; manifest = Number 0; payload = 0 ∷ 255 ∷ [] }) }
+    ensures { read_of (drop 4 SECOND_TELL) ≡ Ok (record { uid = 1; refs_version = 1; manifests_version = 1; serializer = pos 4; sender = Literal []; recipient = Index 0; manifest = Index 0; payload = 0 ∷ 255 ∷ [] }) }
 {}

@@ -1,8 +1,9 @@
 use super::*;
-use artery_base::{Address, Bytes, SysMsg, UniqueAddress, read_address, read_hex, read_unique};
+use artery_base::{Address, Bytes, SysMsg, UniqueAddress};
 use artery_control::{Control, ControlFault, Path, manifest_of, read_control, write_control};
 use artery_frame::{Deframer, PIECE_LIMIT, Stream, write_frame, write_preamble};
 use artery_header::{Envelope, FRAME_LIMIT, Name, read_envelope, write_envelope};
+use artery_text::{read_address, read_hex, read_unique};
 use artery_wire::WireFault;
 use std::alloc::Global;
 use std::test::Fail;

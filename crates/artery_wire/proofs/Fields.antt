@@ -4,11 +4,12 @@ use Rattle.std.specs.Prelude.{◌⊎◌, ◌||◌}
 use Rattle.std.specs.Int.{Width, w32, w64, byte_len, from_le_bytes}
 use Rattle.std.proofs.lemmas.Bool.{ltb-true, ltb-false, lt-ltb, le-ltb, eqb-true, eqb-false, eq-eqb, ne_eqb, or_cases, or_parts, or_from, or_left, or_right}
 use Rattle.std.proofs.lemmas.List.{take_at, drop_at, take-append-drop, length-append, length-take}
+use Rattle.artery_base.specs.Words.{◌>>=◌}
 use Rattle.artery_wire.specs.declared.fault.FaultKind.{FaultKind}
 use Rattle.artery_wire.specs.declared.fault.FaultKind.TheVariants as kinds
 use Rattle.artery_wire.specs.Record.{ValueOf, Varint, Fixed64, Bytes, Fixed32, FieldOf, IsVarint, IsPayload, IsValue, IsField, max_number}
 use Rattle.artery_wire.specs.FirstFault.{PayloadFault, ValueFault, AfterKey, FieldFault}
-use Rattle.artery_wire.specs.Reading.{◌>>=◌, varint_at, split_at, fixed_at, payload_at, value_at, field_at}
+use Rattle.artery_wire.specs.Reading.{varint_at, split_at, fixed_at, payload_at, value_at, field_at}
 use Rattle.artery_wire.proofs.Varints.{bind_ok, bind_err, chosen, ok_is, Varints, varint_takes, varint_again, varint_some, varint_fault, varint_fault_again}
 
 -- ---- so many bytes

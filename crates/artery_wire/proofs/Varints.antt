@@ -4,11 +4,12 @@ use Rattle.std.specs.Prelude.{◌⊎◌}
 use Rattle.std.proofs.Math.Nat.{mod-add-mod}
 use Rattle.std.proofs.lemmas.Nat.{mul-mod_first}
 use Rattle.std.proofs.lemmas.Bool.{ltb-true, ltb-false, lt-ltb, le-ltb}
+use Rattle.artery_base.specs.Words.{◌>>=◌}
 use Rattle.artery_wire.specs.declared.fault.FaultKind.{FaultKind}
 use Rattle.artery_wire.specs.declared.fault.FaultKind.TheVariants as kinds
 use Rattle.artery_wire.specs.Record.{Continues, digits_sum, IsVarint}
 use Rattle.artery_wire.specs.FirstFault.{AllContinue, IsLong, VarintFault}
-use Rattle.artery_wire.specs.Reading.{◌>>=◌, with_low, digits_at, varint_at}
+use Rattle.artery_wire.specs.Reading.{with_low, digits_at, varint_at}
 
 -- the value of a step that did not fail
 pub bind_ok : {A B : Type 0} (r : Result A FaultKind) (f : A → Result B FaultKind) (y : B) → (r >>= f) ≡ Ok y → (x : A) × (r ≡ Ok x) × (f x ≡ Ok y)

@@ -1,7 +1,8 @@
 ghost use Rattle.std.specs.Prelude.{◌≡◌};
 ghost use Rattle.std.specs.Int.{w32, w64};
+ghost use Rattle.artery_base.specs.Words.{Shows};
 ghost use Rattle.artery_wire.specs.Record.{value_of, field_of};
-ghost use Rattle.artery_wire.specs.Reading.{Gives, split_at, fixed_at, payload_at, value_at, field_at};
+ghost use Rattle.artery_wire.specs.Reading.{split_at, fixed_at, payload_at, value_at, field_at};
 
 use crate::fault::FaultKind;
 use crate::varint::varint_front;
@@ -30,7 +31,7 @@ pub struct Field<'a> {
 }
 
 fn split_front(len: u64, bytes: &[u8]) -> Result<(&[u8], &[u8]), FaultKind>
-    ensures { Gives (λ x. (x.0.now, x.1.now)) result (split_at len bytes.now) }
+    ensures { Shows (λ x. (x.0.now, x.1.now)) result (split_at len bytes.now) }
 {
     if (bytes.len() as u64) < len {
         return Err(FaultKind::Truncated);
@@ -40,7 +41,7 @@ fn split_front(len: u64, bytes: &[u8]) -> Result<(&[u8], &[u8]), FaultKind>
 }
 
 fn u64_front(bytes: &[u8]) -> Result<(u64, &[u8]), FaultKind>
-    ensures { Gives (λ x. (x.0, x.1.now)) result (fixed_at w64 bytes.now) }
+    ensures { Shows (λ x. (x.0, x.1.now)) result (fixed_at w64 bytes.now) }
 {
     let (front, rest) = split_front(8, bytes)?;
     let number = u64::from_le_bytes([
@@ -50,7 +51,7 @@ fn u64_front(bytes: &[u8]) -> Result<(u64, &[u8]), FaultKind>
 }
 
 fn u32_front(bytes: &[u8]) -> Result<(u32, &[u8]), FaultKind>
-    ensures { Gives (λ x. (x.0, x.1.now)) result (fixed_at w32 bytes.now) }
+    ensures { Shows (λ x. (x.0, x.1.now)) result (fixed_at w32 bytes.now) }
 {
     let (front, rest) = split_front(4, bytes)?;
     let number = u32::from_le_bytes([front[0], front[1], front[2], front[3]]);
@@ -59,7 +60,7 @@ fn u32_front(bytes: &[u8]) -> Result<(u32, &[u8]), FaultKind>
 
 #[tactic(auto, unfolding(crate::specs::Reading::payload_at))]
 fn payload_front(bytes: &[u8]) -> Result<(&[u8], &[u8]), FaultKind>
-    ensures { Gives (λ x. (x.0.now, x.1.now)) result (payload_at bytes.now) }
+    ensures { Shows (λ x. (x.0.now, x.1.now)) result (payload_at bytes.now) }
 {
     let (len, rest) = varint_front(bytes)?;
     split_front(len, rest)
@@ -67,7 +68,7 @@ fn payload_front(bytes: &[u8]) -> Result<(&[u8], &[u8]), FaultKind>
 
 #[tactic(auto, unfolding(crate::specs::Reading::value_at))]
 fn value_front(kind: u64, bytes: &[u8]) -> Result<(Value<'_>, &[u8]), FaultKind>
-    ensures { Gives (λ x. (value_of x.0, x.1.now)) result (value_at kind bytes.now) }
+    ensures { Shows (λ x. (value_of x.0, x.1.now)) result (value_at kind bytes.now) }
 {
     match kind {
         0 => {
@@ -93,7 +94,7 @@ fn value_front(kind: u64, bytes: &[u8]) -> Result<(Value<'_>, &[u8]), FaultKind>
 /// The field at the front, and the bytes after it.
 #[tactic(auto, unfolding(crate::specs::Reading::field_at))]
 pub(crate) fn field_front(bytes: &[u8]) -> Result<(Field<'_>, &[u8]), FaultKind>
-    ensures { Gives (λ x. (field_of x.0, x.1.now)) result (field_at bytes.now) }
+    ensures { Shows (λ x. (field_of x.0, x.1.now)) result (field_at bytes.now) }
 {
     let (key, rest) = varint_front(bytes)?;
     let number = key / 8;

@@ -13,11 +13,8 @@ pub fn put_uint(number: u32, value: u64, out: &mut Bytes) -> Result<(), NoMemory
     ensures err { OnErr result (out.new ≡ out.old) }
 {
     let before = out.len();
-    let result = append_uint(number, value, out);
-    if result.is_err() {
-        out.truncate(before);
-    }
-    result
+    let appended = append_uint(number, value, out);
+    out.settle(before, appended)
 }
 
 /// Appends a field whose value is a signed number (wire type 0): a negative one as its two's complement
@@ -38,11 +35,8 @@ pub fn put_bytes(number: u32, bytes: &[u8], out: &mut Bytes) -> Result<(), NoMem
     ensures err { OnErr result (out.new ≡ out.old) }
 {
     let before = out.len();
-    let result = append_bytes(number, bytes, out);
-    if result.is_err() {
-        out.truncate(before);
-    }
-    result
+    let appended = append_bytes(number, bytes, out);
+    out.settle(before, appended)
 }
 
 /// How many bytes `put_uint` appends.
@@ -71,11 +65,8 @@ pub fn put_head(number: u32, len: usize, out: &mut Bytes) -> Result<(), NoMemory
     ensures err { OnErr result (out.new ≡ out.old) }
 {
     let before = out.len();
-    let result = append_head(number, len, out);
-    if result.is_err() {
-        out.truncate(before);
-    }
-    result
+    let appended = append_head(number, len, out);
+    out.settle(before, appended)
 }
 
 /// How many bytes the shortest varint of a number has.

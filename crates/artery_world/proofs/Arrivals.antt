@@ -8,7 +8,7 @@ use Rattle.std.proofs.lemmas.List.{length_push}
 use Rattle.artery_base.specs.declared.address.UniqueAddress.{UniqueAddress}
 use Rattle.artery_base.specs.declared.message.SysMsg.{SysMsg}
 use Rattle.artery_delivery.specs.Inbound.{same_origin, expected_of, next_of, is_expected, taking, with_taken}
-use Rattle.artery_delivery.specs.declared.inbound.TheConstants.{NEVER_EXPECTED}
+use Rattle.artery_delivery.specs.Limits.{never_expected}
 use Rattle.artery_delivery.specs.declared.inbound.Take.{Take}
 use Rattle.artery_delivery.specs.declared.inbound.Take.TheVariants.{Taken, Again, Gap}
 use Rattle.artery_delivery.specs.Outbound.{Kept, kept_acknowledged}
@@ -63,7 +63,7 @@ expected_is origin n entries known taken = by (expected_of origin entries) refl 
         tests : (a b : Bool) → is_expected n v ≡ b → cond a (Again (v - 1)) (cond b Taken (Gap (v - 1))) ≡ Taken → (Some v ≡ Some n) × (is_expected n v ≡ true)
         tests true b e h = cc
         tests false false e h = cc
-        tests false true e h = (ap Some (let is : (n == v) ≡ true = first (n == v) (nat_lt n NEVER_EXPECTED) e in (let same : n ≡ v = grind (arith, nat_tests) in sym same)), e)
+        tests false true e h = (ap Some (let is : (n == v) ≡ true = first (n == v) (nat_lt n never_expected) e in (let same : n ≡ v = grind (arith, nat_tests) in sym same)), e)
           where
             first : (a b : Bool) → (a && b) ≡ true → a ≡ true
             first true b h = refl

@@ -3,16 +3,16 @@ use Rattle.std.proofs.Common.{◌≡◌, ℕ, zero, suc, Bool, true, false, cond
 use Rattle.std.specs.Prelude.{Option, None, Some, is_some, find, slice_get, slice_set, Ok, Err}
 use Rattle.artery_base.specs.declared.address.UniqueAddress.{UniqueAddress}
 use Rattle.artery_base.specs.declared.message.SysMsg.{SysMsg}
-use Rattle.artery_base.specs.declared.message.Request.{Request}
-use Rattle.artery_base.specs.declared.message.Request.TheVariants.{Pair, Send}
+use Rattle.artery_early.specs.declared.request.Request.{Request}
+use Rattle.artery_early.specs.declared.request.Request.TheVariants.{Pair, Send}
 use Rattle.artery_delivery.specs.Inbound.{expected_of, taking}
 use Rattle.artery_delivery.specs.Outbound.{acceptance}
 use Rattle.artery_delivery.specs.declared.inbound.Take.{Take}
 use Rattle.artery_delivery.specs.declared.inbound.Take.TheVariants.{Taken, Again, Gap}
 use Rattle.artery_delivery.specs.declared.outbound.Accept.{Accept}
 use Rattle.artery_delivery.specs.declared.outbound.Accept.TheVariants.{Accepted, Waiting, Overflow}
-use Rattle.artery_script.specs.declared.event.Event.{Event}
-use Rattle.artery_script.specs.declared.event.Event.TheVariants.{Start, At, Pass}
+use Rattle.artery_early.specs.declared.event.Event.{Event}
+use Rattle.artery_early.specs.declared.event.Event.TheVariants.{Start, At, Pass}
 use Rattle.artery_world.specs.declared.parcel.Parcel.{Parcel}
 use Rattle.artery_world.specs.declared.parcel.Parcel.TheVariants.{Numbered, Ack}
 use Rattle.artery_world.specs.declared.pending.Pending.{Pending}

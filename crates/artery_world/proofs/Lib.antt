@@ -1,3 +1,4 @@
+pub mod Appending
 pub mod Lists
 pub mod Journal
 pub mod Sending

@@ -8,22 +8,22 @@ use Rattle.std.proofs.lemmas.List.{map-append}
 use Rattle.artery_base.specs.declared.address.Address.{Address}
 use Rattle.artery_base.specs.declared.address.UniqueAddress.{UniqueAddress}
 use Rattle.artery_base.specs.declared.message.SysMsg.{SysMsg}
-use Rattle.artery_base.specs.declared.message.Request.{Request}
-use Rattle.artery_base.specs.declared.message.Request.TheVariants.{Pair, Send}
+use Rattle.artery_early.specs.declared.request.Request.{Request}
+use Rattle.artery_early.specs.declared.request.Request.TheVariants.{Pair, Send}
 use Rattle.artery_delivery.specs.Inbound.{same_origin}
 use Rattle.artery_delivery.specs.Outbound.{Kept, given, is_full, acceptance, kept_accepted}
 use Rattle.artery_delivery.specs.declared.outbound.Accept.{Accept}
 use Rattle.artery_delivery.specs.declared.outbound.Accept.TheVariants.{Accepted, Waiting, Overflow}
-use Rattle.artery_script.specs.declared.event.Event.{Event}
-use Rattle.artery_script.specs.declared.event.Event.TheVariants.{Start, At, Pass}
+use Rattle.artery_early.specs.declared.event.Event.{Event}
+use Rattle.artery_early.specs.declared.event.Event.TheVariants.{Start, At, Pass}
 use Rattle.artery_world.specs.declared.fault.Why.TheVariants.{UsedUid, AddressLive}
 use Rattle.artery_world.specs.declared.fault.WorldLimit.TheVariants as limits
 use Rattle.artery_world.specs.declared.fault.WorldFault.{WorldFault}
 use Rattle.artery_world.specs.declared.fault.WorldFault.TheVariants.{NotAllowed, Limit}
 use Rattle.artery_world.specs.declared.line.Line.{Line}
 use Rattle.artery_world.specs.declared.line.Line.TheVariants.{Started, Sent}
-use Rattle.artery_script.specs.declared.script.ScriptLine.{ScriptLine}
-use Rattle.artery_world.specs.declared.world.TheConstants.{MOST_NODES}
+use Rattle.artery_early.specs.declared.script.ScriptLine.{ScriptLine}
+use Rattle.artery_world.specs.Limits.{most_nodes}
 use Rattle.artery_world.specs.Laws.{sent_by, taken_by, IsPrefix, IsLawful}
 use Rattle.artery_world.specs.Lookup.{change_first}
 use Rattle.artery_world.specs.World.{PeerState, NodeState, Net, World, nothing, new_node, has_uid, lives_at, is_at, node_of, same_address}
@@ -287,7 +287,7 @@ sends_keeps w x address m books at =
 -- ---- a step
 
 starts_keeps : (w : World) (u : UniqueAddress) → Books w → KeepsBooks (starts u w)
-starts_keeps w u books = by (list_any (λ uid. uid == u.uid) w.net.started) (list_any (lives_at u.address) w.net.live) (nat_lt (length w.net.live) MOST_NODES) refl
+starts_keeps w u books = by (list_any (λ uid. uid == u.uid) w.net.started) (list_any (lives_at u.address) w.net.live) (nat_lt (length w.net.live) most_nodes) refl
   where
     by : (a b c : Bool) → list_any (λ uid. uid == u.uid) w.net.started ≡ a
         → KeepsBooks (starts_unless (cond a (Some (NotAllowed UsedUid)) (cond b (Some (NotAllowed AddressLive)) (cond c None (Some (Limit limits.Nodes))))) u w)

@@ -6,7 +6,7 @@ use Rattle.std.proofs.lemmas.Bool.Decides.{nat_tests}
 use Rattle.artery_base.specs.declared.address.UniqueAddress.{UniqueAddress}
 use Rattle.artery_base.specs.declared.message.SysMsg.{SysMsg}
 use Rattle.artery_delivery.specs.Inbound.{same_origin, expected_of, next_of, is_expected, taking, with_taken}
-use Rattle.artery_delivery.specs.declared.inbound.TheConstants.{NEVER_EXPECTED}
+use Rattle.artery_delivery.specs.Limits.{never_expected}
 use Rattle.artery_delivery.specs.declared.inbound.Take.{Take}
 use Rattle.artery_delivery.specs.declared.inbound.Take.TheVariants.{Taken, Again, Gap}
 use Rattle.artery_world.specs.declared.line.Line.{Line}
@@ -27,7 +27,7 @@ not_counted origin n entries h = by (nat_lt n (next_of origin entries)) (is_expe
     by : (a b : Bool) → nat_lt n (next_of origin entries) ≡ a → is_expected n (next_of origin entries) ≡ b
         → (cond a (Again (next_of origin entries - 1)) (cond b Taken (Gap (next_of origin entries - 1))) ≡ Taken → ⊥)
         → cond b (set_value (same_origin origin) entries (n + 1)) entries ≡ entries
-    by true true e f h = absurd (let same : (n == next_of origin entries) ≡ true = first (n == next_of origin entries) (nat_lt n NEVER_EXPECTED) f in grind (arith, nat_tests))
+    by true true e f h = absurd (let same : (n == next_of origin entries) ≡ true = first (n == next_of origin entries) (nat_lt n never_expected) f in grind (arith, nat_tests))
       where
         first : (x y : Bool) → (x && y) ≡ true → x ≡ true
         first true y g = refl

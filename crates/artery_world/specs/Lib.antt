@@ -1,3 +1,4 @@
+pub mod Limits
 pub mod Lookup
 pub mod World
 pub mod Step

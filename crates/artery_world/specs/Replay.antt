@@ -1,7 +1,7 @@
 -- A whole run: the events of a script in order, up to the first that does not happen.
 use Rattle.std.specs.Prelude.{ℕ, List, [], ◌∷◌, ◌++◌, Option, None, Some, Result, Ok, Err}
 use Rattle.artery_world.specs.declared.fault.WorldFault.{WorldFault}
-use Rattle.artery_script.specs.declared.script.ScriptLine.{ScriptLine}
+use Rattle.artery_early.specs.declared.script.ScriptLine.{ScriptLine}
 use Rattle.artery_world.specs.declared.line.Line.{Line}
 use Rattle.artery_world.specs.World.{World, nothing}
 use Rattle.artery_world.specs.Step.{step}

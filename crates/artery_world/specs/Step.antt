@@ -4,17 +4,17 @@ use Rattle.std.specs.List.{list_any}
 use Rattle.artery_base.specs.declared.address.Address.{Address}
 use Rattle.artery_base.specs.declared.address.UniqueAddress.{UniqueAddress}
 use Rattle.artery_base.specs.declared.message.SysMsg.{SysMsg}
-use Rattle.artery_base.specs.declared.message.Request.{Request}
-use Rattle.artery_base.specs.declared.message.Request.TheVariants.{Pair, Send}
+use Rattle.artery_early.specs.declared.request.Request.{Request}
+use Rattle.artery_early.specs.declared.request.Request.TheVariants.{Pair, Send}
 use Rattle.artery_delivery.specs.Outbound.{Kept, given, acceptance, kept_accepted, kept_learnt, kept_acknowledged}
-use Rattle.artery_delivery.specs.declared.outbound.TheConstants.{WINDOW}
+use Rattle.artery_delivery.specs.Limits.{window}
 use Rattle.artery_delivery.specs.declared.outbound.Accept.{Accept}
 use Rattle.artery_delivery.specs.declared.outbound.Accept.TheVariants.{Accepted, Waiting, Overflow}
 use Rattle.artery_delivery.specs.Inbound.{expected_of, with_origin, taking, with_taken}
 use Rattle.artery_delivery.specs.declared.inbound.Take.{Take}
 use Rattle.artery_delivery.specs.declared.inbound.Take.TheVariants.{Taken, Again, Gap}
-use Rattle.artery_script.specs.declared.event.Event.{Event}
-use Rattle.artery_script.specs.declared.event.Event.TheVariants.{Start, At, Pass}
+use Rattle.artery_early.specs.declared.event.Event.{Event}
+use Rattle.artery_early.specs.declared.event.Event.TheVariants.{Start, At, Pass}
 use Rattle.artery_world.specs.declared.parcel.Parcel.{Parcel}
 use Rattle.artery_world.specs.declared.parcel.Parcel.TheVariants.{Numbered, Ack}
 use Rattle.artery_world.specs.declared.pending.Pending.{Pending}
@@ -24,7 +24,7 @@ use Rattle.artery_world.specs.declared.fault.Why.TheVariants.{UsedUid, AddressLi
 use Rattle.artery_world.specs.declared.fault.WorldLimit.TheVariants as limits
 use Rattle.artery_world.specs.declared.fault.WorldFault.{WorldFault}
 use Rattle.artery_world.specs.declared.fault.WorldFault.TheVariants.{NotAllowed, Limit, NoMemory}
-use Rattle.artery_world.specs.declared.world.TheConstants.{MOST_NODES}
+use Rattle.artery_world.specs.Limits.{most_nodes}
 use Rattle.artery_world.specs.Lookup.{change_first}
 use Rattle.artery_world.specs.World.{PeerState, NodeState, LinkState, Net, World, new_peer, new_node, has_uid, lives_at, is_at, node_of, peer_of, same_address}
 
@@ -77,7 +77,7 @@ numbered n (m ∷ ms) = Numbered n m ∷ numbered (n + 1) ms
 
 -- the last number that may be written: at most the window above the acknowledged one
 abbrev pub last_to_write : Kept → ℕ
-last_to_write k = min (given k) (k.acknowledged + WINDOW)
+last_to_write k = min (given k) (k.acknowledged + window)
 
 -- all parcels that may be written: the kept messages past the written number, within the window
 abbrev pub parcels_of : Kept → List Parcel
@@ -271,7 +271,7 @@ abbrev pub start_fault : UniqueAddress → Net → Option WorldFault
 start_fault unique net =
     if list_any (λ uid. uid == unique.uid) net.started then Some (NotAllowed UsedUid)
     else if list_any (lives_at unique.address) net.live then Some (NotAllowed AddressLive)
-    else if nat_lt (length net.live) MOST_NODES then None
+    else if nat_lt (length net.live) most_nodes then None
     else Some (Limit limits.Nodes)
 
 -- an incarnation starts where nothing speaks against it

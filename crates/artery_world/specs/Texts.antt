@@ -1,6 +1,6 @@
 -- The texts of journal lines.
 use Rattle.std.specs.Prelude.{ℕ, List, [], ◌∷◌, ◌++◌, codes, decimal, flat_map}
-use Rattle.artery_base.specs.Spelling.{unique_text, message_text}
+use Rattle.artery_text.specs.Spelling.{unique_text, message_text}
 use Rattle.artery_world.specs.declared.line.Line.{Line}
 use Rattle.artery_world.specs.declared.line.Line.TheVariants.{Started, Learnt, Sent, Took}
 

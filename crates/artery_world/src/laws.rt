@@ -1,9 +1,9 @@
 //! The laws of the world's journal, over every script. Their functions do nothing.
 ghost use Rattle.std.specs.Prelude.{List};
-ghost use Rattle.artery_script.specs.declared.script.ScriptLine.{ScriptLine};
+ghost use Rattle.artery_early.specs.declared.script.ScriptLine.{ScriptLine};
 ghost use Rattle.artery_world.specs.Laws.{IsLawful};
 ghost use Rattle.std.specs.Prelude.{◌≡◌};
-ghost use Rattle.artery_script.specs.declared.event.Event.{Event};
+ghost use Rattle.artery_early.specs.declared.event.Event.{Event};
 ghost use Rattle.artery_world.specs.declared.line.Line.{Line};
 ghost use Rattle.artery_world.specs.Replay.{run, with_lines_before, with_lines_before_result};
 ghost use Rattle.artery_world.specs.Step.{step};

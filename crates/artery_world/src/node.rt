@@ -10,7 +10,7 @@ use crate::parcel::Parcel;
 use crate::peer::Peer;
 use artery_base::{Address, NoMemory, SysMsg, UniqueAddress};
 use artery_delivery::{Accept, Inbound, Take};
-use artery_script::copy_of_address;
+use artery_early::copy_of_address;
 use std::alloc::Global;
 use std::collections::VecDeque;
 use std::marker::Model;

@@ -11,7 +11,7 @@ use crate::lines::Lines;
 use crate::parcel::Parcel;
 use artery_base::{Address, NoMemory, SysMsg, UniqueAddress};
 use artery_delivery::{Accept, Outbound};
-use artery_script::{copy_of_message, copy_of_unique};
+use artery_early::{copy_of_message, copy_of_unique};
 use std::alloc::Global;
 use std::collections::VecDeque;
 use std::marker::Model;

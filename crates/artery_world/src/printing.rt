@@ -1,41 +1,13 @@
 ghost use Rattle.std.specs.Prelude.{◌≡◌, [], ◌∷◌, ◌++◌, length, take, codes, decimal, flat_map, OnOk, OnErr};
-ghost use Rattle.artery_base.specs.Spelling.{unique_text, message_text};
+ghost use Rattle.artery_text.specs.Spelling.{unique_text, message_text};
 ghost use Rattle.artery_world.specs.Texts.{line_text, ended_line, journal_text};
 
 use crate::line::Line;
 use crate::lines::Lines;
-use artery_base::{
-    Bytes, NoMemory, SysMsg, UniqueAddress, print_hex, print_int32, print_number, print_unique,
-    print_word,
-};
+use artery_base::{Bytes, NoMemory, SysMsg, UniqueAddress};
+use artery_text::{print_message, print_number, print_unique};
 
-#[tactic(auto, using(artery_base::proofs::Appending::keeps_front))]
-fn put_message(message: &SysMsg, out: &mut Bytes) -> Result<(), NoMemory>
-    ensures ok { OnOk result (out.new ≡ out.old ++ message_text message.now) }
-    ensures kept { take (length out.old) out.new ≡ out.old }
-{
-    print_int32(message.serializer, out)?;
-    out.push(b' ')?;
-    print_word(message.manifest.as_slice(), out)?;
-    out.push(b' ')?;
-    print_hex(message.payload.as_slice(), out)
-}
-
-/// Appends the message: its serializer, its manifest as a word and its payload in hexadecimal, with
-/// one space between them. Without memory `out` stays as it was.
-pub(crate) fn print_message(message: &SysMsg, out: &mut Bytes) -> Result<(), NoMemory>
-    ensures ok { OnOk result (out.new ≡ out.old ++ message_text message.now) }
-    ensures err { OnErr result (out.new ≡ out.old) }
-{
-    let before = out.len();
-    if let Err(fault) = put_message(message, out) {
-        out.truncate(before);
-        return Err(fault);
-    }
-    Ok(())
-}
-
-#[tactic(auto, using(artery_base::proofs::Appending::keeps_front))]
+#[tactic(auto, using(crate::proofs::Appending::keeps_front))]
 fn put_started(of: &UniqueAddress, out: &mut Bytes) -> Result<(), NoMemory>
     ensures ok { OnOk result (out.new ≡ out.old ++ unique_text of.now ++ codes " started") }
     ensures kept { take (length out.old) out.new ≡ out.old }
@@ -45,7 +17,7 @@ fn put_started(of: &UniqueAddress, out: &mut Bytes) -> Result<(), NoMemory>
 }
 
 // Who did something to whom.
-#[tactic(auto, using(artery_base::proofs::Appending::keeps_front))]
+#[tactic(auto, using(crate::proofs::Appending::keeps_front))]
 fn put_both(
     of: &UniqueAddress,
     verb: &[u8],
@@ -61,7 +33,7 @@ fn put_both(
 }
 
 // A message with its number, behind a space.
-#[tactic(auto, using(artery_base::proofs::Appending::keeps_front))]
+#[tactic(auto, using(crate::proofs::Appending::keeps_front))]
 fn put_numbered(n: u64, message: &SysMsg, out: &mut Bytes) -> Result<(), NoMemory>
     ensures ok { OnOk result (out.new ≡ out.old ++ codes " " ++ decimal n ++ codes " " ++ message_text message.now) }
     ensures kept { take (length out.old) out.new ≡ out.old }
@@ -72,7 +44,7 @@ fn put_numbered(n: u64, message: &SysMsg, out: &mut Bytes) -> Result<(), NoMemor
     print_message(message, out)
 }
 
-#[tactic(auto, using(artery_base::proofs::Appending::keeps_front, artery_base::proofs::Appending::keeps_on))]
+#[tactic(auto, using(crate::proofs::Appending::keeps_front, crate::proofs::Appending::keeps_on))]
 fn put_line(line: &Line, out: &mut Bytes) -> Result<(), NoMemory>
     ensures ok { OnOk result (out.new ≡ out.old ++ line_text line.now) }
     ensures kept { take (length out.old) out.new ≡ out.old }
@@ -107,14 +79,11 @@ pub fn print_line(line: &Line, out: &mut Bytes) -> Result<(), NoMemory>
     ensures err { OnErr result (out.new ≡ out.old) }
 {
     let before = out.len();
-    if let Err(fault) = put_line(line, out) {
-        out.truncate(before);
-        return Err(fault);
-    }
-    Ok(())
+    let appended = put_line(line, out);
+    out.settle(before, appended)
 }
 
-#[tactic(auto, using(artery_base::proofs::Appending::keeps_front))]
+#[tactic(auto, using(crate::proofs::Appending::keeps_front))]
 fn put_lines(lines: &[Line], out: &mut Bytes) -> Result<(), NoMemory>
     ensures ok { OnOk result (out.new ≡ out.old ++ journal_text lines.now) }
     ensures kept { take (length out.old) out.new ≡ out.old }
@@ -132,9 +101,6 @@ pub fn print_lines(lines: &Lines, out: &mut Bytes) -> Result<(), NoMemory>
     ensures err { OnErr result (out.new ≡ out.old) }
 {
     let before = out.len();
-    if let Err(fault) = put_lines(lines.as_slice(), out) {
-        out.truncate(before);
-        return Err(fault);
-    }
-    Ok(())
+    let appended = put_lines(lines.as_slice(), out);
+    out.settle(before, appended)
 }

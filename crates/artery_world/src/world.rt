@@ -6,7 +6,7 @@ ghost use Rattle.artery_world.specs.Step.{step, Happens, KeepsNet, end_of};
 use crate::fault::WorldFault;
 use crate::lines::Lines;
 use crate::network::Network;
-use artery_script::Event;
+use artery_early::Event;
 use std::alloc::Global;
 use std::marker::Model;
 

@@ -1,10 +1,10 @@
 use Rattle.std.specs.Prelude.{codes}
 use Rattle.std.specs.Prelude.{◌++◌}
-use Rattle.artery_base.specs.Spelling.{unique_text}
+use Rattle.artery_text.specs.Spelling.{unique_text}
 use Rattle.artery_capture.specs.ControlText.{optional_text}
 use Rattle.artery_capture.proofs.Appending.{two_parts}
 use Rattle.artery_capture.proofs.control_text.put_answer.Goals as goal
 
 pub returns-clause-ok : goal.returns-clause-ok
 returns-clause-ok c =
-    two_parts c.print_answer_fields.result c.args.out.now (codes "handshake-rsp ") (unique_text c.args.from.now ++ codes " " ++ optional_text c.args.for_uid ++ codes " " ++ optional_text c.args.nonce) c.extend_from_slice.new.self c.print_answer_fields.new.out c.in_ok-extend_from_slice.ensures.ok c.print_answer_fields.ensures.ok
+    two_parts c.put_answer_fields.result c.args.out.now (codes "handshake-rsp ") (unique_text c.args.from.now ++ codes " " ++ optional_text c.args.for_uid ++ codes " " ++ optional_text c.args.nonce) c.extend_from_slice.new.self c.put_answer_fields.new.out c.in_ok-extend_from_slice.ensures.ok c.put_answer_fields.ensures.ok

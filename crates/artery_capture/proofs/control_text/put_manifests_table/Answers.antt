@@ -5,4 +5,4 @@ use Rattle.artery_capture.proofs.control_text.put_manifests_table.Goals as goal
 
 pub returns-clause-ok : goal.returns-clause-ok
 returns-clause-ok c =
-    two_parts c.print_table.result c.args.out.now (codes "manifests-table ") (table_text c.args.from.now c.args.origin_uid (version_text c.args.version c.args.sequence) c.args.keys.now c.args.values.now) c.extend_from_slice.new.self c.print_table.new.out c.in_ok-extend_from_slice.ensures.ok c.print_table.ensures.ok
+    two_parts c.put_table.result c.args.out.now (codes "manifests-table ") (table_text c.args.from.now c.args.origin_uid (version_text c.args.version c.args.sequence) c.args.keys.now c.args.values.now) c.extend_from_slice.new.self c.put_table.new.out c.in_ok-extend_from_slice.ensures.ok c.put_table.ensures.ok

@@ -1,5 +1,5 @@
 use Rattle.std.specs.Prelude.{codes}
-use Rattle.artery_base.specs.Spelling.{unique_text}
+use Rattle.artery_text.specs.Spelling.{unique_text}
 use Rattle.artery_capture.proofs.Appending.{two_parts}
 use Rattle.artery_capture.proofs.control_text.put_terminating_ack.Goals as goal
 

@@ -1,14 +1,14 @@
 use Rattle.std.proofs.Common.{refl, ◌∙◌, subst}
 use Rattle.std.specs.Prelude.{Err}
-use Rattle.artery_base.specs.Reading.{Gives}
+use Rattle.artery_text.specs.Reading.{Gives}
 use Rattle.artery_cli.specs.Leaving.{WritingStops}
 use Rattle.artery_cli.specs.declared.refusal.Refusal.TheVariants as refusals
 use Rattle.artery_cli.proofs.Results.{if_err}
 use Rattle.artery_cli.proofs.Stopping.{played_left, refused_script}
 use Rattle.artery_cli.proofs.replaying.replay_text.Goals as goal
-use Rattle.artery_script.specs.Script.{script_memory, script_of}
-use Rattle.artery_script.specs.declared.script.ScriptFault.{ScriptFault}
-use Rattle.artery_script.specs.declared.script.ScriptFault.TheVariants as script_faults
+use Rattle.artery_early.specs.Script.{script_memory, script_of}
+use Rattle.artery_early.specs.declared.script.ScriptFault.{ScriptFault}
+use Rattle.artery_early.specs.declared.script.ScriptFault.TheVariants as script_faults
 
 pub returns-in-Err-TooManyLines-clause-left : goal.returns-in-Err-TooManyLines-clause-left
 returns-in-Err-TooManyLines-clause-left g c =

@@ -6,7 +6,7 @@ use Rattle.artery_cli.proofs.Stopping.{leaves_nothing_here, words_stop, words_an
 use Rattle.artery_cli.proofs.top.command.Goals as goal
 
 pub returns-in_err-command_of-clause-left : goal.returns-in_err-command_of-clause-left
-returns-in_err-command_of-clause-left g c = stops_with c.from_residual.result stops.NoMemory _ c.from_residual.ensures (leaves_nothing_here (g.S.Source.left c.args.input.now) (command_of c.args.words.now) (g.K.Sink.held c.args.output.now))
+returns-in_err-command_of-clause-left g c = stops_with c.from_residual.result stops.NoMemory _ c.from_residual.ensures (leaves_nothing_here c.nothing_told.ensures.lines (g.S.Source.left c.args.input.now) (command_of c.args.words.now) (g.K.Sink.held c.args.output.now))
 
 pub returns-in-None-clause-answers : goal.returns-in-None-clause-answers
 returns-in-None-clause-answers g c = words_answer (g.S.Source.left c.args.input.now) (command_of c.args.words.now) c.tell.result _ _ (sym c.in_ok-command_of.ensures ∙ c.in-None.is) c.tell.ensures.written c.tell.ensures.is_status

@@ -4,7 +4,7 @@ use Rattle.artery_cli.specs.declared.stop.Stop.{Stop}
 use Rattle.artery_cli.specs.Leaving.{Leaves}
 use Rattle.artery_cli.specs.Command.{command_of}
 use Rattle.artery_cli.proofs.Gathering.{rose_later}
-use Rattle.artery_cli.proofs.Lawful.{lawful_answer}
+use Rattle.artery_cli.proofs.Lawful.{lawful_answer, lawful_front, lawful_part}
 use Rattle.artery_cli.proofs.Stopping.{told_read, told_part, cut_read, cut_part}
 use Rattle.artery_cli.proofs.top.run.Goals as goal
 
@@ -32,3 +32,24 @@ pub returns-in-Err-NoMemory-clause-taken : goal.returns-in-Err-NoMemory-clause-t
 returns-in-Err-NoMemory-clause-taken g c = λ is.
     let P : Stop → Type 0 = λ stop. IfSome (g.S.Source.left c.args.input.now) (λ text. Leaves stop (command_of c.args.words.now) text (g.K.Sink.held c.args.output.now) (g.K.Sink.held c.command.new.output)) in
     cut_part (g.S.Source.left c.args.input.now) (g.K.Sink.held c.args.output.now) (g.K.Sink.held c.command.new.output) (g.K.Sink.held c.finish-in-Err-NoMemory.new.output) (command_of c.args.words.now) (subst P c.in-Err-NoMemory.field-0-is c.in-Err-NoMemory.ensures.left) c.finish-in-Err-NoMemory.ensures.taken
+
+pub returns-in-Err-Read-clause-lawful_front : goal.returns-in-Err-Read-clause-lawful_front
+returns-in-Err-Read-clause-lawful_front g c = λ is replay. lawful_front (g.S.Source.left c.args.input.now) (g.K.Sink.held c.args.output.now) (g.K.Sink.held c.finish.new.output) (command_of c.args.words.now) c.prefix_law.ensures replay
+    (cut_read (g.S.Source.left c.args.input.now) (g.S.Source.left c.command.new.input) (g.K.Sink.held c.args.output.now) (g.K.Sink.held c.command.new.output) (g.K.Sink.held c.finish.new.output) (command_of c.args.words.now) (c.in-Err-Read.ensures.seen (ap Err c.in-Err-Read.field-0-is)) c.finish.ensures.taken)
+
+pub returns-in-Err-Write-clause-lawful_front : goal.returns-in-Err-Write-clause-lawful_front
+returns-in-Err-Write-clause-lawful_front g c = λ is replay.
+    let P : Stop → Type 0 = λ stop. IfSome (g.S.Source.left c.args.input.now) (λ text. Leaves stop (command_of c.args.words.now) text (g.K.Sink.held c.args.output.now) (g.K.Sink.held c.command.new.output)) in
+    lawful_front (g.S.Source.left c.args.input.now) (g.K.Sink.held c.args.output.now) (g.K.Sink.held c.command.new.output) (command_of c.args.words.now) c.prefix_law.ensures replay (subst P c.in-Err-Write.field-0-is c.in-Err-Write.ensures.left)
+
+pub returns-in-Err-NoMemory-clause-lawful_front : goal.returns-in-Err-NoMemory-clause-lawful_front
+returns-in-Err-NoMemory-clause-lawful_front g c = λ is replay.
+    let P : Stop → Type 0 = λ stop. IfSome (g.S.Source.left c.args.input.now) (λ text. Leaves stop (command_of c.args.words.now) text (g.K.Sink.held c.args.output.now) (g.K.Sink.held c.command.new.output)) in
+    lawful_front (g.S.Source.left c.args.input.now) (g.K.Sink.held c.args.output.now) (g.K.Sink.held c.finish-in-Err-NoMemory.new.output) (command_of c.args.words.now) c.prefix_law.ensures replay
+    (cut_part (g.S.Source.left c.args.input.now) (g.K.Sink.held c.args.output.now) (g.K.Sink.held c.command.new.output) (g.K.Sink.held c.finish-in-Err-NoMemory.new.output) (command_of c.args.words.now) (subst P c.in-Err-NoMemory.field-0-is c.in-Err-NoMemory.ensures.left) c.finish-in-Err-NoMemory.ensures.taken)
+
+pub returns-in-Err-NoMemory-clause-lawful_part : goal.returns-in-Err-NoMemory-clause-lawful_part
+returns-in-Err-NoMemory-clause-lawful_part g c = λ is replay.
+    let P : Stop → Type 0 = λ stop. IfSome (g.S.Source.left c.args.input.now) (λ text. Leaves stop (command_of c.args.words.now) text (g.K.Sink.held c.args.output.now) (g.K.Sink.held c.command.new.output)) in
+    lawful_part (g.S.Source.left c.args.input.now) (g.K.Sink.held c.args.output.now) (g.K.Sink.held c.finish-in-Err-NoMemory.new.output) (command_of c.args.words.now) c.prefix_law.ensures replay
+    (told_part (g.S.Source.left c.args.input.now) (g.K.Sink.held c.args.output.now) (g.K.Sink.held c.command.new.output) (g.K.Sink.held c.finish-in-Err-NoMemory.new.output) (command_of c.args.words.now) (subst P c.in-Err-NoMemory.field-0-is c.in-Err-NoMemory.ensures.left) (c.finish-in-Err-NoMemory.ensures.told (λ four. (let bad : ⊥ = omega (arith, is, four) in bad))).1)

@@ -1,4 +1,5 @@
 use Rattle.artery_frame.proofs.Readings.{is_reading, only_reading, longer_reading, written_reading}
+use Rattle.artery_frame.proofs.Pieces.{front_reading}
 use Rattle.artery_frame.proofs.laws.one_reading.Goals as goal
 
 pub returns-clause-reading : goal.returns-clause-reading
@@ -12,3 +13,6 @@ returns-clause-longer c = longer_reading
 
 pub returns-clause-written : goal.returns-clause-written
 returns-clause-written c = written_reading
+
+pub returns-clause-front : goal.returns-clause-front
+returns-clause-front c = front_reading

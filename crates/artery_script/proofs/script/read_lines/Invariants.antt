@@ -1,14 +1,13 @@
 use Rattle.std.proofs.Common.{◌≡◌, ◌+◌, ◌≤◌, length}
-use Rattle.artery_lines.specs.declared.lines.TheConstants.{MOST_LINES}
 use Rattle.artery_lines.specs.Lines.{lines_of}
-use Rattle.artery_script.specs.Script.{events_from}
-use Rattle.artery_script.proofs.Events.{behind}
+use Rattle.artery_script.specs.Scripts.{most_lines, script_line, items_from}
+use Rattle.artery_script.proofs.Items.{behind}
 use Rattle.artery_script.proofs.script.read_lines.Given as goal
 
 abbrev pub invariant-loop-line : goal.invariant-loop-line
 invariant-loop-line l = record {
-  so_far : behind l.script (events_from (l.n + 1) l.left) ≡ events_from 1 (lines_of l.fn.text);
-  few : l.n + length l.left ≤ MOST_LINES;
+  so_far : behind l.script (items_from script_line (l.n + 1) l.left) ≡ items_from script_line 1 (lines_of l.fn.text);
+  few : l.n + length l.left ≤ most_lines;
 }
 
 abbrev pub decreases-loop-line : goal.decreases-loop-line

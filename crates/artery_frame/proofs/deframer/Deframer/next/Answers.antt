@@ -1,5 +1,6 @@
 use Rattle.std.proofs.Common.{refl}
-use Rattle.artery_frame.proofs.Stood.{answers_so, small_so, after_so}
+use Rattle.artery_frame.proofs.Stood.{answers_so, after_so}
+use Rattle.artery_frame.proofs.Holding.{small_so}
 use Rattle.artery_frame.proofs.deframer.Deframer.next.Goals as goal
 
 pub returns : goal.returns
@@ -9,7 +10,7 @@ returns c =
       record {
         answer = answer;
         given = λ fed given h. answers_so c.args.self.now _ answer fed given h;
-        small = λ fed given h. small_so c.args.self.now _ answer fed given h;
+        small = λ n. small_so c.args.self.now _ answer c.take_frame.ensures.settled n;
         after = tt;
       },
     )

@@ -1,0 +1,68 @@
+ghost use Rattle.std.specs.Prelude.{◌≡◌, ◌<◌, ◌^◌, ◌-◌, IfOk, IsErrOf, IsAscii};
+ghost use Rattle.std.specs.Io.KnownBytes.{Appends};
+ghost use Rattle.artery_io.specs.Written.{TakesFront};
+ghost use Rattle.artery.specs.Own.{own_of};
+ghost use Rattle.artery.specs.declared.own.WordsFault.TheVariants as faults;
+
+use artery_base::Text;
+use artery_io::{Failed, Sink, write_all};
+use artery_text::{TextFault, text_of};
+use std::alloc::Global;
+
+/// Why the words of the command line are no words.
+#[derive(Clone, Copy, Debug, PartialEq, Eq)]
+pub enum WordsFault {
+    /// A word is not ASCII.
+    NotAscii,
+    /// Memory ran out.
+    NoMemory,
+}
+
+/// What the program does by itself, with no command.
+#[derive(Clone, Copy, Debug, PartialEq, Eq)]
+pub enum Own {
+    /// `--help`
+    Help,
+    /// `--version`
+    Version,
+}
+
+/// A word of the command line.
+pub fn word(alloc: Global, text: &str) -> Result<Text, WordsFault>
+    ensures same { IfOk result (λ word. word ≡ text.now) }
+    ensures other { IsErrOf result faults.NotAscii → IsAscii text.now → ⊥ }
+{
+    match text_of(alloc, text.as_bytes()) {
+        Ok(word) => Ok(word),
+        Err(TextFault::NotAscii { .. }) => Err(WordsFault::NotAscii),
+        Err(TextFault::NoMemory) => Err(WordsFault::NoMemory),
+    }
+}
+
+/// What the program does by itself at these words: `--help` and `--version`, each as the only word.
+pub fn own_of(words: &[Text]) -> Option<Own>
+    ensures { result ≡ own_of words.now }
+{
+    let [word] = words else {
+        return None;
+    };
+    if word.as_slice() == b"--help".as_slice() {
+        return Some(Own::Help);
+    }
+    if word.as_slice() == b"--version".as_slice() {
+        return Some(Own::Version);
+    }
+    None
+}
+
+/// Tells a text, and gives the status whether it could be told or not.
+pub fn tell<K: Sink>(output: &mut K, text: &[u8], status: u8) -> u8
+    ensures status { result ≡ status }
+    ensures taken { TakesFront (K.held output.old) (K.held output.new) text.now }
+    ensures whole { K.faults output.new ≡ K.faults output.old → K.faults output.old < 2 ^ 64 - 1 → Appends (K.held output.old) (K.held output.new) text.now }
+{
+    match write_all(output, text) {
+        Ok(()) => status,
+        Err(Failed) => status,
+    }
+}

@@ -1,0 +1,6 @@
+-- Limits of the input.
+use Rattle.std.specs.Prelude.{ℕ}
+
+-- At most 67,108,864 bytes are read as an input.
+abbrev pub most_bytes : ℕ
+most_bytes = 67108864

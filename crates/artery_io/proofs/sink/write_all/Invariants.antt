@@ -1,0 +1,12 @@
+use Rattle.std.proofs.Common.{◌≤◌, length}
+use Rattle.artery_io.specs.Written.{TakesAllBut}
+use Rattle.artery_io.proofs.sink.write_all.Given as goal
+
+abbrev pub invariant-loop-rest : goal.invariant-loop-rest
+invariant-loop-rest g l = record {
+  taken : TakesAllBut l.rest (g.K.Sink.held l.fn.sink) (g.K.Sink.held l.sink) l.piece;
+  faults : g.K.Sink.faults l.fn.sink ≤ g.K.Sink.faults l.sink;
+}
+
+abbrev pub decreases-loop-rest : goal.decreases-loop-rest
+decreases-loop-rest g l = length l.rest

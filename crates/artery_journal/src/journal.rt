@@ -1,0 +1,11 @@
+use crate::lines::Lines;
+use crate::stamped::StampedLines;
+
+/// A journal in one of its two forms.
+#[derive(Clone, Debug, Drop)]
+pub enum Journal {
+    /// Form 1: lines alone.
+    Plain(Lines),
+    /// Form 2: each line with its moment.
+    Stamped(StampedLines),
+}

@@ -1,0 +1,98 @@
+use Rattle.artery_journal_reading.proofs.LineLaws.{line_of_is, line_of_back, stamped_of_is, stamped_of_back}
+use Rattle.artery_journal_reading.proofs.laws.lines_are_spelled.Goals as goal
+
+pub returns-clause-told : goal.returns-clause-told
+returns-clause-told c = line_of_back (record {
+  texts = record {
+    numbers_read = c.spellings_are_read.ensures.numbers;
+    int32s_read = c.spellings_are_read.ensures.int32s;
+    hex_read = c.spellings_are_read.ensures.hexadecimal;
+    words_read = c.spellings_are_read.ensures.words;
+    addresses_read = c.spellings_are_read.ensures.addresses;
+    numbers_spelled = c.readings_are_spelled.ensures.numbers;
+    int32s_spelled = c.readings_are_spelled.ensures.int32s;
+    hex_spelled = c.readings_are_spelled.ensures.hexadecimal;
+    words_spelled = c.readings_are_spelled.ensures.words;
+    addresses_spelled = c.readings_are_spelled.ensures.addresses;
+    number_tokens = c.spellings_are_tokens.ensures.numbers;
+    int32_tokens = c.spellings_are_tokens.ensures.int32s;
+    hex_tokens = c.spellings_are_tokens.ensures.hexadecimal;
+    word_tokens = c.spellings_are_tokens.ensures.words;
+    address_tokens = c.spellings_are_tokens.ensures.addresses;
+  };
+  uniques_read = c.spellings_are_read.ensures.uniques;
+  uniques_spelled = c.readings_are_spelled.ensures.uniques;
+  unique_tokens = c.spellings_are_tokens.ensures.uniques;
+})
+
+pub returns-clause-read : goal.returns-clause-read
+returns-clause-read c = line_of_is (record {
+  texts = record {
+    numbers_read = c.spellings_are_read.ensures.numbers;
+    int32s_read = c.spellings_are_read.ensures.int32s;
+    hex_read = c.spellings_are_read.ensures.hexadecimal;
+    words_read = c.spellings_are_read.ensures.words;
+    addresses_read = c.spellings_are_read.ensures.addresses;
+    numbers_spelled = c.readings_are_spelled.ensures.numbers;
+    int32s_spelled = c.readings_are_spelled.ensures.int32s;
+    hex_spelled = c.readings_are_spelled.ensures.hexadecimal;
+    words_spelled = c.readings_are_spelled.ensures.words;
+    addresses_spelled = c.readings_are_spelled.ensures.addresses;
+    number_tokens = c.spellings_are_tokens.ensures.numbers;
+    int32_tokens = c.spellings_are_tokens.ensures.int32s;
+    hex_tokens = c.spellings_are_tokens.ensures.hexadecimal;
+    word_tokens = c.spellings_are_tokens.ensures.words;
+    address_tokens = c.spellings_are_tokens.ensures.addresses;
+  };
+  uniques_read = c.spellings_are_read.ensures.uniques;
+  uniques_spelled = c.readings_are_spelled.ensures.uniques;
+  unique_tokens = c.spellings_are_tokens.ensures.uniques;
+})
+
+pub returns-clause-stamped_told : goal.returns-clause-stamped_told
+returns-clause-stamped_told c = stamped_of_back (record {
+  texts = record {
+    numbers_read = c.spellings_are_read.ensures.numbers;
+    int32s_read = c.spellings_are_read.ensures.int32s;
+    hex_read = c.spellings_are_read.ensures.hexadecimal;
+    words_read = c.spellings_are_read.ensures.words;
+    addresses_read = c.spellings_are_read.ensures.addresses;
+    numbers_spelled = c.readings_are_spelled.ensures.numbers;
+    int32s_spelled = c.readings_are_spelled.ensures.int32s;
+    hex_spelled = c.readings_are_spelled.ensures.hexadecimal;
+    words_spelled = c.readings_are_spelled.ensures.words;
+    addresses_spelled = c.readings_are_spelled.ensures.addresses;
+    number_tokens = c.spellings_are_tokens.ensures.numbers;
+    int32_tokens = c.spellings_are_tokens.ensures.int32s;
+    hex_tokens = c.spellings_are_tokens.ensures.hexadecimal;
+    word_tokens = c.spellings_are_tokens.ensures.words;
+    address_tokens = c.spellings_are_tokens.ensures.addresses;
+  };
+  uniques_read = c.spellings_are_read.ensures.uniques;
+  uniques_spelled = c.readings_are_spelled.ensures.uniques;
+  unique_tokens = c.spellings_are_tokens.ensures.uniques;
+})
+
+pub returns-clause-stamped_read : goal.returns-clause-stamped_read
+returns-clause-stamped_read c = stamped_of_is (record {
+  texts = record {
+    numbers_read = c.spellings_are_read.ensures.numbers;
+    int32s_read = c.spellings_are_read.ensures.int32s;
+    hex_read = c.spellings_are_read.ensures.hexadecimal;
+    words_read = c.spellings_are_read.ensures.words;
+    addresses_read = c.spellings_are_read.ensures.addresses;
+    numbers_spelled = c.readings_are_spelled.ensures.numbers;
+    int32s_spelled = c.readings_are_spelled.ensures.int32s;
+    hex_spelled = c.readings_are_spelled.ensures.hexadecimal;
+    words_spelled = c.readings_are_spelled.ensures.words;
+    addresses_spelled = c.readings_are_spelled.ensures.addresses;
+    number_tokens = c.spellings_are_tokens.ensures.numbers;
+    int32_tokens = c.spellings_are_tokens.ensures.int32s;
+    hex_tokens = c.spellings_are_tokens.ensures.hexadecimal;
+    word_tokens = c.spellings_are_tokens.ensures.words;
+    address_tokens = c.spellings_are_tokens.ensures.addresses;
+  };
+  uniques_read = c.spellings_are_read.ensures.uniques;
+  uniques_spelled = c.readings_are_spelled.ensures.uniques;
+  unique_tokens = c.spellings_are_tokens.ensures.uniques;
+})

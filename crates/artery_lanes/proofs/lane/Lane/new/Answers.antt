@@ -1,0 +1,5 @@
+use Rattle.artery_lanes.proofs.LaneSteps.{begins}
+use Rattle.artery_lanes.proofs.lane.Lane.new.Goals as goal
+
+pub ruled-requires-clause-rule : goal.ruled-requires-clause-rule
+ruled-requires-clause-rule c = begins

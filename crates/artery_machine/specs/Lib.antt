@@ -1,0 +1,16 @@
+pub mod Lists
+pub mod Parts
+pub mod Deeds
+pub mod Node
+pub mod Doing
+pub mod Making
+pub mod Closing
+pub mod Sending
+pub mod Watching
+pub mod Verdict
+pub mod Handshaking
+pub mod Hearing
+pub mod Ticking
+pub mod Reacting
+pub mod World
+pub mod Examples

@@ -1,0 +1,9 @@
+pub mod AddressLaws
+pub mod AddressParts
+pub mod Decimals
+pub mod HexBlocks
+pub mod HexKit
+pub mod HexPairs
+pub mod Places
+pub mod Tokens
+pub mod WordPieces

@@ -1,0 +1,11 @@
+use Rattle.std.proofs.Common.{rules, ◌≡◌, ℕ, List, ◌++◌, ◌∙◌, sym, codes}
+use Rattle.std.specs.Prelude.{Some}
+use Rattle.artery_watch.specs.Place.{after}
+use Rattle.artery_watch.proofs.Places.{some_after}
+use Rattle.artery_watch.proofs.place.after_scheme.Goals as goal
+
+pub returns : goal.returns
+returns c =
+    let a = c.args.address.now in
+    let first : after c.args.address.now.protocol c.args.text.now ≡ Some c.in_ok-text.text.now = search rules in
+    c.after-2.ensures ∙ sym (some_after a.protocol (codes "://") c.args.text.now c.in_ok-text.text.now first)
