@@ -36,7 +36,7 @@ ticked_bound uid now GiveUp s h = h
 
 call_bound : (uid : ℕ) (call : OutCall) (c : OutConn) → (conn_called call c).state ≡ Bound uid → (c.state ≡ Bound uid) ⊎ IsBind uid call c
 call_bound uid (dialed now) c h = inl (dialed_bound uid now c.state h)
-call_bound uid (answered me from for_uid nonce) c h = answered_bound uid (answer_to_rsp me from for_uid nonce c) c.state h
+call_bound uid (answered me from for_uid its_nonce) c h = answered_bound uid (answer_to_rsp me from for_uid its_nonce c) c.state h
 call_bound uid (ticked now) c h = inl (ticked_bound uid now (answer_to_tick now c) c.state h)
 
 pub bound_by : (uid : ℕ) (calls : List OutCall) (c : OutConn) → (conn_after calls c).state ≡ Bound uid → (c.state ≡ Bound uid) ⊎ BindsWithin uid calls c
@@ -61,7 +61,7 @@ answered_stays uid from meant s h = rw h (repeats_or_stray uid (meant && (uid ==
 
 call_stays : (uid : ℕ) (call : OutCall) (c : OutConn) → c.state ≡ Bound uid → (conn_called call c).state ≡ Bound uid
 call_stays uid (dialed now) c h = rw h refl
-call_stays uid (answered me from for_uid nonce) c h = answered_stays uid from (is_meant me c.dial for_uid nonce) c.state h
+call_stays uid (answered me from for_uid its_nonce) c h = answered_stays uid from (is_meant me c.dial for_uid its_nonce) c.state h
 call_stays uid (ticked now) c h = rw h refl
 
 pub stays_bound : (uid : ℕ) (calls : List OutCall) (c : OutConn) → c.state ≡ Bound uid → (conn_after calls c).state ≡ Bound uid
@@ -71,7 +71,7 @@ stays_bound uid (call ∷ calls) c h = stays_bound uid calls (conn_called call c
 -- no call changes the dial number and the stream
 call_dial : (call : OutCall) (c : OutConn) → (conn_called call c).dial ≡ c.dial
 call_dial (dialed now) c = refl
-call_dial (answered me from for_uid nonce) c = refl
+call_dial (answered me from for_uid its_nonce) c = refl
 call_dial (ticked now) c = refl
 
 pub same_dial : (calls : List OutCall) (c : OutConn) → (conn_after calls c).dial ≡ c.dial
@@ -80,7 +80,7 @@ same_dial (call ∷ calls) c = same_dial calls (conn_called call c) ∙ call_dia
 
 call_stream : (call : OutCall) (c : OutConn) → (conn_called call c).stream ≡ c.stream
 call_stream (dialed now) c = refl
-call_stream (answered me from for_uid nonce) c = refl
+call_stream (answered me from for_uid its_nonce) c = refl
 call_stream (ticked now) c = refl
 
 pub same_stream : (calls : List OutCall) (c : OutConn) → (conn_after calls c).stream ≡ c.stream
@@ -88,6 +88,6 @@ same_stream [] c = refl
 same_stream (call ∷ calls) c = same_stream calls (conn_called call c) ∙ call_stream call c
 
 -- an opened connection stays as it is
-pub stays_known : (origin : UniqueAddress) (nonce : Option ℕ) (requests : List (UniqueAddress × Option ℕ)) → state_after requests (Known origin nonce) ≡ Known origin nonce
-stays_known origin nonce [] = refl
-stays_known origin nonce (request ∷ requests) = stays_known origin nonce requests
+pub stays_known : (origin : UniqueAddress) (its_nonce : Option ℕ) (requests : List (UniqueAddress × Option ℕ)) → state_after requests (Known origin its_nonce) ≡ Known origin its_nonce
+stays_known origin its_nonce [] = refl
+stays_known origin its_nonce (request ∷ requests) = stays_known origin its_nonce requests

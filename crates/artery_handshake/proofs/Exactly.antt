@@ -29,20 +29,20 @@ pub dialed_exactly : (now : ℕ) (old new : OutConn) (result : Bool) → result 
 dialed_exactly now old new result is left = rw (is, left) (dialed_in now old.dial old.stream old.state)
 
 -- the test of the two fields
-meant_is : (me dial : ℕ) (for_uid nonce : Option ℕ) → is_meant me dial for_uid nonce ≡ true → IsMeant me dial for_uid nonce
+meant_is : (me dial : ℕ) (for_uid its_nonce : Option ℕ) → is_meant me dial for_uid its_nonce ≡ true → IsMeant me dial for_uid its_nonce
 meant_is me dial (Some uid) (Some n) h = (grind (arith, nat_tests), grind (arith, nat_tests))
 meant_is me dial (Some uid) None h = tt
-meant_is me dial None nonce h = tt
+meant_is me dial None its_nonce h = tt
 
-is_meant_where : (me dial : ℕ) (for_uid nonce : Option ℕ) → IsMeant me dial for_uid nonce → is_meant me dial for_uid nonce ≡ true
+is_meant_where : (me dial : ℕ) (for_uid its_nonce : Option ℕ) → IsMeant me dial for_uid its_nonce → is_meant me dial for_uid its_nonce ≡ true
 is_meant_where me dial (Some uid) (Some n) h = let a : uid ≡ me = h.0 in let b : n ≡ dial = h.1 in grind (arith, nat_tests)
 is_meant_where me dial (Some uid) None h = refl
-is_meant_where me dial None nonce h = refl
+is_meant_where me dial None its_nonce h = refl
 
 -- an answer in each state
-module _ (me from dial : ℕ) (for_uid nonce : Option ℕ) (stream : Stream) where
+module _ (me from dial : ℕ) (for_uid its_nonce : Option ℕ) (stream : Stream) where
   abbrev AnsweredIn : OutState → OnRsp → Type 0
-  AnsweredIn s answer = AnsweredExactly me from for_uid nonce (record { dial = dial; stream = stream; state = s }) (record { dial = dial; stream = stream; state = state_after_rsp answer s }) answer
+  AnsweredIn s answer = AnsweredExactly me from for_uid its_nonce (record { dial = dial; stream = stream; state = s }) (record { dial = dial; stream = stream; state = state_after_rsp answer s }) answer
 
   in_dialing : AnsweredIn Dialing Stray
   in_dialing = record {
@@ -53,7 +53,7 @@ module _ (me from dial : ℕ) (for_uid nonce : Option ℕ) (stream : Stream) whe
     stray_same = λ h. refl;
   }
 
-  in_asked : (begun last : ℕ) (meant : Bool) → (meant ≡ true → IsMeant me dial for_uid nonce) → (IsMeant me dial for_uid nonce → meant ≡ true) → AnsweredIn (Asked begun last) (if meant then Bind from else Stray)
+  in_asked : (begun last : ℕ) (meant : Bool) → (meant ≡ true → IsMeant me dial for_uid its_nonce) → (IsMeant me dial for_uid its_nonce → meant ≡ true) → AnsweredIn (Asked begun last) (if meant then Bind from else Stray)
   in_asked begun last true then_so only_then = record {
     bind = λ uid. (λ h. (tt, then_so refl, (let e : Bind from ≡ Bind uid = h in cc)), λ p. ap Bind (sym p.2));
     repeat = (λ h. cc, λ p. let e : Asked begun last ≡ Bound from = p.0 in cc);
@@ -69,7 +69,7 @@ module _ (me from dial : ℕ) (for_uid nonce : Option ℕ) (stream : Stream) whe
     stray_same = λ h. refl;
   }
 
-  in_bound : (uid : ℕ) (both : Bool) → (both ≡ true → (uid ≡ from) × IsMeant me dial for_uid nonce) → (uid ≡ from → IsMeant me dial for_uid nonce → both ≡ true) → AnsweredIn (Bound uid) (if both then Repeat else Stray)
+  in_bound : (uid : ℕ) (both : Bool) → (both ≡ true → (uid ≡ from) × IsMeant me dial for_uid its_nonce) → (uid ≡ from → IsMeant me dial for_uid its_nonce → both ≡ true) → AnsweredIn (Bound uid) (if both then Repeat else Stray)
   in_bound uid true then_so only_then = record {
     bind = λ other. (λ h. cc, λ p. absurd p.0);
     repeat = (λ h. (ap Bound (then_so refl).0, (then_so refl).1), λ p. refl);
@@ -92,17 +92,17 @@ both_are false uid from h = cc
 are_both : (meant : Bool) (uid from : ℕ) → uid ≡ from → meant ≡ true → (meant && (uid == from)) ≡ true
 are_both meant uid from same then_so = grind (arith, nat_tests)
 
-answered_in : (me from dial : ℕ) (for_uid nonce : Option ℕ) (stream : Stream) (s : OutState)
-    → AnsweredExactly me from for_uid nonce (record { dial = dial; stream = stream; state = s }) (record { dial = dial; stream = stream; state = state_after_rsp (answer_in s from (is_meant me dial for_uid nonce)) s }) (answer_in s from (is_meant me dial for_uid nonce))
-answered_in me from dial for_uid nonce stream Dialing = in_dialing me from dial for_uid nonce stream
-answered_in me from dial for_uid nonce stream (Asked begun last) = in_asked me from dial for_uid nonce stream begun last (is_meant me dial for_uid nonce) (meant_is me dial for_uid nonce) (is_meant_where me dial for_uid nonce)
-answered_in me from dial for_uid nonce stream (Bound uid) =
-    in_bound me from dial for_uid nonce stream uid (is_meant me dial for_uid nonce && (uid == from))
-    (λ h. let b = both_are (is_meant me dial for_uid nonce) uid from h in (b.0, meant_is me dial for_uid nonce b.1))
-    (λ same meant. are_both (is_meant me dial for_uid nonce) uid from same (is_meant_where me dial for_uid nonce meant))
+answered_in : (me from dial : ℕ) (for_uid its_nonce : Option ℕ) (stream : Stream) (s : OutState)
+    → AnsweredExactly me from for_uid its_nonce (record { dial = dial; stream = stream; state = s }) (record { dial = dial; stream = stream; state = state_after_rsp (answer_in s from (is_meant me dial for_uid its_nonce)) s }) (answer_in s from (is_meant me dial for_uid its_nonce))
+answered_in me from dial for_uid its_nonce stream Dialing = in_dialing me from dial for_uid its_nonce stream
+answered_in me from dial for_uid its_nonce stream (Asked begun last) = in_asked me from dial for_uid its_nonce stream begun last (is_meant me dial for_uid its_nonce) (meant_is me dial for_uid its_nonce) (is_meant_where me dial for_uid its_nonce)
+answered_in me from dial for_uid its_nonce stream (Bound uid) =
+    in_bound me from dial for_uid its_nonce stream uid (is_meant me dial for_uid its_nonce && (uid == from))
+    (λ h. let b = both_are (is_meant me dial for_uid its_nonce) uid from h in (b.0, meant_is me dial for_uid its_nonce b.1))
+    (λ same meant. are_both (is_meant me dial for_uid its_nonce) uid from same (is_meant_where me dial for_uid its_nonce meant))
 
-pub answered_exactly : (me from : ℕ) (for_uid nonce : Option ℕ) (old new : OutConn) (result : OnRsp) → result ≡ answer_to_rsp me from for_uid nonce old → new ≡ conn_answered me from for_uid nonce old → AnsweredExactly me from for_uid nonce old new result
-answered_exactly me from for_uid nonce old new result is left = rw (is, left) (answered_in me from old.dial for_uid nonce old.stream old.state)
+pub answered_exactly : (me from : ℕ) (for_uid its_nonce : Option ℕ) (old new : OutConn) (result : OnRsp) → result ≡ answer_to_rsp me from for_uid its_nonce old → new ≡ conn_answered me from for_uid its_nonce old → AnsweredExactly me from for_uid its_nonce old new result
+answered_exactly me from for_uid its_nonce old new result is left = rw (is, left) (answered_in me from old.dial for_uid its_nonce old.stream old.state)
 
 -- a moment in each state
 late_is : (limit now : ℕ) → nat_le limit now ≡ true → limit ≤ now
@@ -188,16 +188,16 @@ both_true : (a b : Bool) → (a && b) ≡ true → (a ≡ true) × (b ≡ true)
 both_true true b h = (refl, h)
 both_true false b h = cc
 
-in_known : (origin known : UniqueAddress) (nonce shown : Option ℕ) (same : Bool) → (same ≡ true → Known known shown ≡ Known origin nonce) → (Known known shown ≡ Known origin nonce → same ≡ true)
-    → RequestedExactly origin nonce (Known known shown) (Known known shown) (if same then Repeated else OtherOrigin)
-in_known origin known nonce shown true then_so only_then = record {
+in_known : (origin known : UniqueAddress) (its_nonce shown : Option ℕ) (same : Bool) → (same ≡ true → Known known shown ≡ Known origin its_nonce) → (Known known shown ≡ Known origin its_nonce → same ≡ true)
+    → RequestedExactly origin its_nonce (Known known shown) (Known known shown) (if same then Repeated else OtherOrigin)
+in_known origin known its_nonce shown true then_so only_then = record {
   opened = (λ h. cc, λ p. cc);
   repeated = (λ h. then_so refl, λ p. refl);
   known = λ h. cc;
   repeated_same = λ h. refl;
   other_same = λ h. refl;
 }
-in_known origin known nonce shown false then_so only_then = record {
+in_known origin known its_nonce shown false then_so only_then = record {
   opened = (λ h. cc, λ p. cc);
   repeated = (λ h. cc, λ p. absurd (true≢false (sym (only_then p))));
   known = λ h. cc;
@@ -211,18 +211,18 @@ known_are a b m n e f = rw (e, f) refl
 same_where : (a b : UniqueAddress) (m n : Option ℕ) → Known a m ≡ Known b n → (same_origin a b && same_nonce m n) ≡ true
 same_where a b m n h = let e : a ≡ b = cc in let f : m ≡ n = cc in rw (e, f, same_self b, nonce_self n) refl
 
-requested_in : (origin : UniqueAddress) (nonce : Option ℕ) (s : InState) → RequestedExactly origin nonce s (state_after_req origin nonce s) (answer_to_req origin nonce s)
-requested_in origin nonce Raw = record {
+requested_in : (origin : UniqueAddress) (its_nonce : Option ℕ) (s : InState) → RequestedExactly origin its_nonce s (state_after_req origin its_nonce s) (answer_to_req origin its_nonce s)
+requested_in origin its_nonce Raw = record {
   opened = (λ h. refl, λ p. refl);
   repeated = (λ h. cc, λ p. cc);
   known = λ h. refl;
   repeated_same = λ h. cc;
   other_same = λ h. cc;
 }
-requested_in origin nonce (Known known shown) =
-    in_known origin known nonce shown (same_origin known origin && same_nonce shown nonce)
-    (λ h. let b = both_true (same_origin known origin) (same_nonce shown nonce) h in known_are known origin shown nonce (same_is known origin b.0) (nonce_is shown nonce b.1))
-    (same_where known origin shown nonce)
+requested_in origin its_nonce (Known known shown) =
+    in_known origin known its_nonce shown (same_origin known origin && same_nonce shown its_nonce)
+    (λ h. let b = both_true (same_origin known origin) (same_nonce shown its_nonce) h in known_are known origin shown its_nonce (same_is known origin b.0) (nonce_is shown its_nonce b.1))
+    (same_where known origin shown its_nonce)
 
-pub requested_exactly : (origin : UniqueAddress) (nonce : Option ℕ) (old new : InState) (result : OnReq) → result ≡ answer_to_req origin nonce old → new ≡ state_after_req origin nonce old → RequestedExactly origin nonce old new result
-requested_exactly origin nonce old new result is left = rw (is, left) (requested_in origin nonce old)
+pub requested_exactly : (origin : UniqueAddress) (its_nonce : Option ℕ) (old new : InState) (result : OnReq) → result ≡ answer_to_req origin its_nonce old → new ≡ state_after_req origin its_nonce old → RequestedExactly origin its_nonce old new result
+requested_exactly origin its_nonce old new result is left = rw (is, left) (requested_in origin its_nonce old)

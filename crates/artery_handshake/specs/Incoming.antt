@@ -20,18 +20,18 @@ same_nonce None None = true
 
 -- The first request opens a connection; a later one repeats it where it has the same origin and the same nonce, and else is another's.
 abbrev pub answer_to_req : UniqueAddress → Option ℕ → InState → OnReq
-answer_to_req origin nonce Raw = Opened
-answer_to_req origin nonce (Known known shown) = if same_origin known origin && same_nonce shown nonce then Repeated else OtherOrigin
+answer_to_req origin its_nonce Raw = Opened
+answer_to_req origin its_nonce (Known known shown) = if same_origin known origin && same_nonce shown its_nonce then Repeated else OtherOrigin
 
 -- The state after a request: the first one fixes the origin and the nonce, and any other changes nothing.
 abbrev pub state_after_req : UniqueAddress → Option ℕ → InState → InState
-state_after_req origin nonce Raw = Known origin nonce
-state_after_req origin nonce (Known known shown) = Known known shown
+state_after_req origin its_nonce Raw = Known origin its_nonce
+state_after_req origin its_nonce (Known known shown) = Known known shown
 
 -- When exactly `on_req` answers Opened and Repeated, and what it leaves. OtherOrigin is every other answer.
-pub record RequestedExactly (origin : UniqueAddress) (nonce : Option ℕ) (old new : InState) (result : OnReq) : Type 0 where
+pub record RequestedExactly (origin : UniqueAddress) (its_nonce : Option ℕ) (old new : InState) (result : OnReq) : Type 0 where
   pub opened : (result ≡ Opened) ↔ (old ≡ Raw)
-  pub repeated : (result ≡ Repeated) ↔ (old ≡ Known origin nonce)
-  pub known : result ≡ Opened → new ≡ Known origin nonce
+  pub repeated : (result ≡ Repeated) ↔ (old ≡ Known origin its_nonce)
+  pub known : result ≡ Opened → new ≡ Known origin its_nonce
   pub repeated_same : result ≡ Repeated → new ≡ old
   pub other_same : result ≡ OtherOrigin → new ≡ old

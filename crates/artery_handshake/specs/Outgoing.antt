@@ -30,9 +30,9 @@ conn_dialed now c = record c { state = state_dialed now c.state }
 
 -- An answer is meant for a connection where it bears the own UID and the connection's dial number, or where it lacks one of the two.
 abbrev pub is_meant : ℕ → ℕ → Option ℕ → Option ℕ → Bool
-is_meant me dial (Some uid) (Some nonce) = (uid == me) && (nonce == dial)
+is_meant me dial (Some uid) (Some its_nonce) = (uid == me) && (its_nonce == dial)
 is_meant me dial (Some uid) None = true
-is_meant me dial None nonce = true
+is_meant me dial None its_nonce = true
 
 -- An answer that is meant for it binds a connection that asked, and is a repeat on one that is bound to its sender; else it is stray.
 abbrev pub answer_in : OutState → ℕ → Bool → OnRsp
@@ -42,7 +42,7 @@ answer_in (Bound uid) from meant = if meant && (uid == from) then Repeat else St
 
 -- What an answer with these two fields from a UID does to a connection of the node with the UID me.
 abbrev pub answer_to_rsp : ℕ → ℕ → Option ℕ → Option ℕ → OutConn → OnRsp
-answer_to_rsp me from for_uid nonce c = answer_in c.state from (is_meant me c.dial for_uid nonce)
+answer_to_rsp me from for_uid its_nonce c = answer_in c.state from (is_meant me c.dial for_uid its_nonce)
 
 -- Bind alone changes the state.
 abbrev pub state_after_rsp : OnRsp → OutState → OutState
@@ -52,7 +52,7 @@ state_after_rsp Stray state = state
 
 -- A connection after an answer.
 abbrev pub conn_answered : ℕ → ℕ → Option ℕ → Option ℕ → OutConn → OutConn
-conn_answered me from for_uid nonce c = record c { state = state_after_rsp (answer_to_rsp me from for_uid nonce c) c.state }
+conn_answered me from for_uid its_nonce c = record c { state = state_after_rsp (answer_to_rsp me from for_uid its_nonce c) c.state }
 
 -- A connection that asked is given up 20,000 ms after its first request, and else asks again 1,000 ms after its last.
 abbrev pub due_in : ℕ → OutState → OnTick
@@ -82,9 +82,9 @@ conn_ticked now c = record c { state = state_after_tick (answer_to_tick now c) n
 
 -- An answer has both fields, and they are the own UID and the dial number; or it has not both.
 abbrev pub IsMeant : ℕ → ℕ → Option ℕ → Option ℕ → Type 0
-IsMeant me dial (Some uid) (Some nonce) = (uid ≡ me) × (nonce ≡ dial)
+IsMeant me dial (Some uid) (Some its_nonce) = (uid ≡ me) × (its_nonce ≡ dial)
 IsMeant me dial (Some uid) None = Unit {0}
-IsMeant me dial None nonce = Unit {0}
+IsMeant me dial None its_nonce = Unit {0}
 
 -- The state is Asked.
 abbrev pub IsAsked : OutState → Type 0
@@ -99,9 +99,9 @@ pub record DialedExactly (now : ℕ) (old new : OutConn) (result : Bool) : Type 
   pub else_same : result ≡ false → new ≡ old
 
 -- When exactly `on_rsp` answers Bind and Repeat, and what it leaves. Stray is every other answer.
-pub record AnsweredExactly (me from : ℕ) (for_uid nonce : Option ℕ) (old new : OutConn) (result : OnRsp) : Type 0 where
-  pub bind : (uid : ℕ) → (result ≡ Bind uid) ↔ (IsAsked old.state × IsMeant me old.dial for_uid nonce × (uid ≡ from))
-  pub repeat : (result ≡ Repeat) ↔ ((old.state ≡ Bound from) × IsMeant me old.dial for_uid nonce)
+pub record AnsweredExactly (me from : ℕ) (for_uid its_nonce : Option ℕ) (old new : OutConn) (result : OnRsp) : Type 0 where
+  pub bind : (uid : ℕ) → (result ≡ Bind uid) ↔ (IsAsked old.state × IsMeant me old.dial for_uid its_nonce × (uid ≡ from))
+  pub repeat : (result ≡ Repeat) ↔ ((old.state ≡ Bound from) × IsMeant me old.dial for_uid its_nonce)
   pub bound : (uid : ℕ) → result ≡ Bind uid → new ≡ record old { state = Bound uid }
   pub repeat_same : result ≡ Repeat → new ≡ old
   pub stray_same : result ≡ Stray → new ≡ old

@@ -16,7 +16,7 @@ pub data OutCall : Type 0 where
 -- A connection after a call.
 abbrev pub conn_called : OutCall → OutConn → OutConn
 conn_called (dialed now) c = conn_dialed now c
-conn_called (answered me from for_uid nonce) c = conn_answered me from for_uid nonce c
+conn_called (answered me from for_uid its_nonce) c = conn_answered me from for_uid its_nonce c
 conn_called (ticked now) c = conn_ticked now c
 
 -- A connection after a list of calls, the first of them first.
@@ -27,7 +27,7 @@ conn_after (call ∷ calls) c = conn_after calls (conn_called call c)
 -- A call is an answer of a peer to which a connection says Bind with this UID.
 abbrev pub IsBind : ℕ → OutCall → OutConn → Type 0
 IsBind uid (dialed now) c = ⊥
-IsBind uid (answered me from for_uid nonce) c = answer_to_rsp me from for_uid nonce c ≡ Bind uid
+IsBind uid (answered me from for_uid its_nonce) c = answer_to_rsp me from for_uid its_nonce c ≡ Bind uid
 IsBind uid (ticked now) c = ⊥
 
 -- One of these calls says Bind with this UID.

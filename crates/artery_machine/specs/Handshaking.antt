@@ -40,7 +40,7 @@ most_origins = 1024
 -- The answer to a request of this incarnation: it repeats the UID and the nonce, or has neither where the request had no nonce.
 abbrev pub answer_to : UniqueAddress → Option ℕ → Answer
 answer_to v None = record { for_uid = None; nonce = None }
-answer_to v (Some nonce) = record { for_uid = Some v.uid; nonce = Some nonce }
+answer_to v (Some its_nonce) = record { for_uid = Some v.uid; nonce = Some its_nonce }
 
 -- The message of an answer.
 abbrev pub response : UniqueAddress → Answer → Control
@@ -67,8 +67,8 @@ is_other OtherOrigin = true
 
 -- What an answer is to a connection, where there is one.
 abbrev pub answer_on : ℕ → UniqueAddress → Option ℕ → Option ℕ → Option OutConn → OnRsp
-answer_on me v for_uid nonce None = Stray
-answer_on me v for_uid nonce (Some c) = answer_to_rsp me v.uid for_uid nonce c
+answer_on me v for_uid its_nonce None = Stray
+answer_on me v for_uid its_nonce (Some c) = answer_to_rsp me v.uid for_uid its_nonce c
 
 -- Whether an answer was meant for a connection.
 abbrev pub is_met : OnRsp → Bool
@@ -87,10 +87,10 @@ module _ {P : Parts} where
 
   -- The first of these rules drops a request: it is for another address; it is from the own address; it is from another origin, or with another nonce, than the connection is known for; its peer is one too many; its origin is one too many.
   abbrev pub request_rule : Node P → Inbound P → UniqueAddress → Address → Option ℕ → Option DropRule
-  request_rule n i v to nonce =
+  request_rule n i v to its_nonce =
       if not (same_address to n.me.address) then Some rules.NotMe
       else if same_address v.address n.me.address then Some rules.Itself
-      else if is_other (answer_to_req v nonce i.state) then Some rules.Origin
+      else if is_other (answer_to_req v its_nonce i.state) then Some rules.Origin
       else if not (may_have v.address n) then Some rules.Peers
       else if not (has_origin v n || nat_lt (length n.origins) most_origins) then Some rules.Origins
       else None
@@ -101,7 +101,7 @@ module _ {P : Parts} where
 
   -- It is known who speaks on an inbound connection.
   abbrev pub known_as : UniqueAddress → Option ℕ → Inbound P → Inbound P
-  known_as v nonce i = record i { state = state_after_req v nonce i.state }
+  known_as v its_nonce i = record i { state = state_after_req v its_nonce i.state }
 
   -- An answer is owed; a former one is not owed any more.
   abbrev pub owing : Answer → Inbound P → Inbound P
@@ -125,7 +125,7 @@ module _ {P : Parts} where
 
   -- What an answer is to the connection of this kind.
   abbrev pub answer_at : Stream → Node P → UniqueAddress → Option ℕ → Option ℕ → OnRsp
-  answer_at stream n v for_uid nonce = answer_on n.me.uid v for_uid nonce (conn_of stream (peer_at v.address n))
+  answer_at stream n v for_uid its_nonce = answer_on n.me.uid v for_uid its_nonce (conn_of stream (peer_at v.address n))
 
 module _ {P : Parts} {E : Sink} where
   -- ---- dials
@@ -142,7 +142,7 @@ module _ {P : Parts} {E : Sink} where
   -- The answer owed on an inbound connection is written, where the one that asked is at the address.
   abbrev pub answers_owed : Address → ℕ → Inbound P → InState → Rule P E
   answers_owed address dial i Raw = stays
-  answers_owed address dial i (Known who nonce) =
+  answers_owed address dial i (Known who its_nonce) =
       where_true (same_address who.address address) (inbound_becomes i.number owes_no_answer ▸ writes_answer dial i.owed)
 
   -- All answers that are owed to those at an address are written, by ascending number of the inbound connection.
@@ -197,12 +197,12 @@ module _ {P : Parts} {E : Sink} where
 
   -- A request is answered.
   abbrev pub answers : ℕ → UniqueAddress → Option ℕ → Rule P E
-  answers number v nonce d = answers_on number (answer_to v nonce) (dial_asked (conn_of streams.Control (peer_at v.address d.node))) d
+  answers number v its_nonce d = answers_on number (answer_to v its_nonce) (dial_asked (conn_of streams.Control (peer_at v.address d.node))) d
 
   -- A request is taken: the peer is made where it is missing, and used; it is known who speaks on the connection; the origin is made where it is new; and the request is answered.
   abbrev pub is_asked : ℕ → UniqueAddress → Option ℕ → Rule P E
-  is_asked number v nonce =
-      makes_missing v.address ▸ uses v.address ▸ inbound_becomes number (known_as v nonce) ▸ makes_origin v ▸ answers number v nonce
+  is_asked number v its_nonce =
+      makes_missing v.address ▸ uses v.address ▸ inbound_becomes number (known_as v its_nonce) ▸ makes_origin v ▸ answers number v its_nonce
 
   -- A rule drops a frame.
   abbrev pub drops : ℕ → DropRule → Rule P E
@@ -215,7 +215,7 @@ module _ {P : Parts} {E : Sink} where
 
   -- A handshake request came.
   abbrev pub requested : Inbound P → UniqueAddress → Address → Option ℕ → Rule P E
-  requested i v to nonce d = drops_or i.number (request_rule d.node i v to nonce) (is_asked i.number v nonce) d
+  requested i v to its_nonce d = drops_or i.number (request_rule d.node i v to its_nonce) (is_asked i.number v its_nonce) d
 
   -- ---- binding
 
@@ -266,44 +266,44 @@ module _ {P : Parts} {E : Sink} where
 
   -- An answer that is meant for no connection of this node.
   abbrev pub strays : UniqueAddress → Option ℕ → Rule P E
-  strays v nonce = tells_of (λ me. lines.Stray me v nonce)
+  strays v its_nonce = tells_of (λ me. lines.Stray me v its_nonce)
 
   -- The ordinary connection that is bound to the current UID tells what was held. One that is bound to another is given up.
   abbrev pub binds_ordinary : UniqueAddress → Option ℕ → Option ℕ → Rule P E
-  binds_ordinary v nonce None = strays v nonce ▸ gives_up streams.Ordinary v.address
-  binds_ordinary v nonce (Some dial) = tells_held v.address dial
+  binds_ordinary v its_nonce None = strays v its_nonce ▸ gives_up streams.Ordinary v.address
+  binds_ordinary v its_nonce (Some dial) = tells_held v.address dial
 
   -- A connection is bound by an answer of this incarnation. The control connection is used then, and the UID is learnt.
   abbrev pub binds : Stream → UniqueAddress → Option ℕ → Rule P E
-  binds streams.Control v nonce d = (uses v.address ▸ learns v) d
-  binds streams.Ordinary v nonce d = binds_ordinary v nonce (ordinary_dial v (peer_at v.address d.node)) d
+  binds streams.Control v its_nonce d = (uses v.address ▸ learns v) d
+  binds streams.Ordinary v its_nonce d = binds_ordinary v its_nonce (ordinary_dial v (peer_at v.address d.node)) d
 
   -- An answer changes a connection, and binds it where it says so.
   abbrev pub answered_as : Stream → UniqueAddress → Option ℕ → Option ℕ → OnRsp → Rule P E
-  answered_as stream v for_uid nonce (Bind uid) d =
-      (peer_becomes v.address (with_link stream (change_conn (conn_answered d.node.me.uid v.uid for_uid nonce))) ▸ binds stream v nonce) d
-  answered_as stream v for_uid nonce Repeat d = d
-  answered_as stream v for_uid nonce Stray d = d
+  answered_as stream v for_uid its_nonce (Bind uid) d =
+      (peer_becomes v.address (with_link stream (change_conn (conn_answered d.node.me.uid v.uid for_uid its_nonce))) ▸ binds stream v its_nonce) d
+  answered_as stream v for_uid its_nonce Repeat d = d
+  answered_as stream v for_uid its_nonce Stray d = d
 
   -- The connection of this kind takes an answer.
   abbrev pub takes_answer : Stream → UniqueAddress → Option ℕ → Option ℕ → Rule P E
-  takes_answer stream v for_uid nonce d = answered_as stream v for_uid nonce (answer_at stream d.node v for_uid nonce) d
+  takes_answer stream v for_uid its_nonce d = answered_as stream v for_uid its_nonce (answer_at stream d.node v for_uid its_nonce) d
 
   -- An answer with both fields is for the connection with that dial number. Where it is not meant for it, or there is none, it is stray.
   abbrev pub answered_to : UniqueAddress → ℕ → ℕ → Rule P E
-  answered_to v for_uid nonce d =
-      to_one (dialed_as nonce (peer_at v.address d.node)) (stream_dialed nonce (peer_at v.address d.node)) d
+  answered_to v for_uid its_nonce d =
+      to_one (dialed_as its_nonce (peer_at v.address d.node)) (stream_dialed its_nonce (peer_at v.address d.node)) d
     where
       to_one : Bool → Stream → Rule P E
-      to_one false stream e = strays v (Some nonce) e
+      to_one false stream e = strays v (Some its_nonce) e
       to_one true stream e =
-          (if is_met (answer_at stream e.node v (Some for_uid) (Some nonce)) then takes_answer stream v (Some for_uid) (Some nonce)
-          else strays v (Some nonce)) e
+          (if is_met (answer_at stream e.node v (Some for_uid) (Some its_nonce)) then takes_answer stream v (Some for_uid) (Some its_nonce)
+          else strays v (Some its_nonce)) e
 
   -- An answer without both fields is for the control connection and then, always, for the ordinary one. Where it is meant for neither, it is stray.
   abbrev pub answered_plainly : UniqueAddress → Option ℕ → Option ℕ → Rule P E
-  answered_plainly v for_uid nonce d =
-      (takes_answer streams.Control v for_uid nonce ▸ then_ordinary (is_met (answer_at streams.Control d.node v for_uid nonce))) d
+  answered_plainly v for_uid its_nonce d =
+      (takes_answer streams.Control v for_uid its_nonce ▸ then_ordinary (is_met (answer_at streams.Control d.node v for_uid its_nonce))) d
     where
       unless_met : Bool → Rule P E
       unless_met true = stays
@@ -311,10 +311,10 @@ module _ {P : Parts} {E : Sink} where
 
       then_ordinary : Bool → Rule P E
       then_ordinary met e =
-          (takes_answer streams.Ordinary v for_uid nonce ▸ unless_met (met || is_met (answer_at streams.Ordinary e.node v for_uid nonce))) e
+          (takes_answer streams.Ordinary v for_uid its_nonce ▸ unless_met (met || is_met (answer_at streams.Ordinary e.node v for_uid its_nonce))) e
 
   -- A handshake answer came.
   abbrev pub answered : UniqueAddress → Option ℕ → Option ℕ → Rule P E
-  answered v (Some for_uid) (Some nonce) = answered_to v for_uid nonce
+  answered v (Some for_uid) (Some its_nonce) = answered_to v for_uid its_nonce
   answered v (Some for_uid) None = answered_plainly v (Some for_uid) None
-  answered v None nonce = answered_plainly v None nonce
+  answered v None its_nonce = answered_plainly v None its_nonce

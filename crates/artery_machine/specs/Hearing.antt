@@ -223,8 +223,8 @@ module _ {P : Parts} {E : Sink} where
   controlled conn v (controls.Quarantined from to) = noticed conn v to
   controlled conn v (controls.Terminating from) = drops conn rules.Unused
   controlled conn v (controls.TerminatingAck from) = drops conn rules.Unused
-  controlled conn v (controls.HandshakeReq from to nonce) = stays
-  controlled conn v (controls.HandshakeRsp from for_uid nonce) = stays
+  controlled conn v (controls.HandshakeReq from to its_nonce) = stays
+  controlled conn v (controls.HandshakeRsp from for_uid its_nonce) = stays
   controlled conn v (controls.RefsTable from origin_uid version keys values sequence) =
       uses v.address ▸ tabled conn v Refs origin_uid (table_number version sequence) keys values
   controlled conn v (controls.RefsAck from version sequence) = confirms conn v Refs (table_number version sequence)
@@ -256,8 +256,8 @@ module _ {P : Parts} {E : Sink} where
 
   -- What a message does: a handshake request, an answer to one, or what a known origin says.
   abbrev pub handles : Inbound P → Content → Rule P E
-  handles i (Controls (controls.HandshakeReq from to nonce)) = requested i from to nonce
-  handles i (Controls (controls.HandshakeRsp from for_uid nonce)) = answered from for_uid nonce
+  handles i (Controls (controls.HandshakeReq from to its_nonce)) = requested i from to its_nonce
+  handles i (Controls (controls.HandshakeRsp from for_uid its_nonce)) = answered from for_uid its_nonce
   handles i content = by_speaker (speaker_in i.state) (λ v. spoken i v content)
 
   -- A frame is dropped by the first rule for which it must be, or handled.

@@ -183,12 +183,12 @@ dial_asked (Some c) = speaking_dial c.dial c.state
 -- The origin that is known to speak on an inbound connection.
 abbrev pub speaker_in : InState → Option UniqueAddress
 speaker_in Raw = None
-speaker_in (Known who nonce) = Some who
+speaker_in (Known who its_nonce) = Some who
 
 -- The nonce with which an inbound connection was made known.
 abbrev pub nonce_in : InState → Option ℕ
 nonce_in Raw = None
-nonce_in (Known who nonce) = nonce
+nonce_in (Known who its_nonce) = its_nonce
 
 module _ {P : Parts} where
   -- The address of a peer.

@@ -123,8 +123,8 @@ content_of envelope m = if is_control_serializer m.serializer then control_read 
 
 -- Whether it is a handshake request or its answer.
 abbrev pub is_handshake : Content → Bool
-is_handshake (Controls (controls.HandshakeReq from to nonce)) = true
-is_handshake (Controls (controls.HandshakeRsp from for_uid nonce)) = true
+is_handshake (Controls (controls.HandshakeReq from to its_nonce)) = true
+is_handshake (Controls (controls.HandshakeRsp from for_uid its_nonce)) = true
 is_handshake _ = false
 
 -- Who says that it speaks, where a message says so.
@@ -132,8 +132,8 @@ abbrev pub speaker_of : Control → Option UniqueAddress
 speaker_of (controls.Quarantined from to) = Some from
 speaker_of (controls.Terminating from) = Some from
 speaker_of (controls.TerminatingAck from) = Some from
-speaker_of (controls.HandshakeReq from to nonce) = Some from
-speaker_of (controls.HandshakeRsp from for_uid nonce) = Some from
+speaker_of (controls.HandshakeReq from to its_nonce) = Some from
+speaker_of (controls.HandshakeRsp from for_uid its_nonce) = Some from
 speaker_of (controls.RefsTable from origin_uid version keys values sequence) = Some from
 speaker_of (controls.RefsAck from version sequence) = Some from
 speaker_of (controls.ManifestsTable from origin_uid version keys values sequence) = Some from
@@ -158,8 +158,8 @@ agrees_with uid (Some said) = said == uid
 -- Whether a speaker is the origin that is known on the connection, where both are there.
 abbrev pub is_the_known : InState → Option UniqueAddress → Bool
 is_the_known Raw speaker = true
-is_the_known (Known who nonce) None = true
-is_the_known (Known who nonce) (Some v) = same_unique v who
+is_the_known (Known who its_nonce) None = true
+is_the_known (Known who its_nonce) (Some v) = same_unique v who
 
 -- Whether a message comes from the one that it says: its UID is the header's, and on a known connection it is the origin.
 abbrev pub is_from : ℕ → InState → Content → Bool
@@ -169,7 +169,7 @@ is_from uid state (Controls control) = agrees_with uid (uid_said control (speake
 -- Whether the UID of a header is that of the origin, where one is known.
 abbrev pub is_uid_of : InState → ℕ → Bool
 is_uid_of Raw uid = true
-is_uid_of (Known who nonce) uid = uid == who.uid
+is_uid_of (Known who its_nonce) uid = uid == who.uid
 
 -- What a frame is: dropped by a rule; dropped, whatever it says, since its origin was closed; or what it says.
 pub data Verdict : Type 0 where
@@ -212,7 +212,7 @@ module _ {P : Parts} where
   -- The tables by which the names on a connection are read: those announced to its origin, and empty ones where none is known.
   abbrev pub tables_for : InState → Node P → OfKinds P.Announced
   tables_for Raw n = of_each P.nothing_announced
-  tables_for (Known who nonce) n = (origin_at who n).tables
+  tables_for (Known who its_nonce) n = (origin_at who n).tables
 
   -- What a frame says, or the first of these rules that drops it: it is no envelope; its UID is not the origin's; a name means nothing; it does not belong on the stream; it is no control message; nobody is known to speak yet and it is no handshake; it is not from the one that it says.
   unfoldable pub content_in : Node P → Inbound P → List ℕ → Result Content Rule
