@@ -5,7 +5,8 @@ use Rattle.artery_base.specs.declared.address.UniqueAddress.{UniqueAddress}
 use Rattle.artery_journal.specs.declared.line.Line.{Line}
 use Rattle.artery_machine.specs.declared.input.Conn.TheVariants.{Outward}
 use Rattle.artery_machine.specs.Lists.{change_first}
-use Rattle.artery_machine.specs.Deeds.{Writing, Deed, Writes, Hangs, Tells}
+use Rattle.artery_machine.specs.declared.effect.Effect.{Effect}
+use Rattle.artery_machine.specs.Deeds.{Writing, Deed, Writes, Hangs, Tells, effect_of}
 use Rattle.artery_machine.specs.Parts.{Parts}
 use Rattle.artery_machine.specs.Node.{Node, Peer, Inbound, Origin, is_peer, is_number, is_origin}
 
@@ -17,6 +18,15 @@ pub record Sink : Type 1 where
 -- They are listed in the order told.
 abbrev pub listed : Sink
 listed = record { Deeds = List Deed; told = λ deed deeds. deeds ++ deed ∷ [] }
+
+-- What the node with this UID did, in the order told, with what it writes as bytes.
+pub record InBytes : Type 0 where
+  pub uid : ℕ
+  pub effects : List Effect
+
+-- They are listed in the order told, each with its bytes.
+abbrev pub in_bytes : Sink
+in_bytes = record { Deeds = InBytes; told = λ deed done. record done { effects = done.effects ++ effect_of done.uid deed ∷ [] } }
 
 -- A node at work: what it is by now, and its deeds so far.
 pub record Doing (P : Parts) (E : Sink) : Type 0 where

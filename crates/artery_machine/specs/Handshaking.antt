@@ -1,5 +1,5 @@
 -- The handshake: dials that are up, requests and answers, and what follows where a connection is bound.
-use Rattle.std.specs.Prelude.{ℕ, ◌+◌, ◌==◌, nat_lt, Bool, true, false, ◌||◌, not, is_some, if◌then◌else◌, List, [], ◌∷◌, ◌++◌, length, Option, None, Some}
+use Rattle.std.specs.Prelude.{ℕ, ◌+◌, ◌==◌, nat_lt, Bool, true, false, ◌||◌, ◌&&◌, not, is_some, if◌then◌else◌, List, [], ◌∷◌, ◌++◌, length, Option, None, Some}
 use Rattle.artery_base.specs.declared.address.Address.{Address}
 use Rattle.artery_base.specs.declared.address.UniqueAddress.{UniqueAddress}
 use Rattle.artery_base.specs.declared.message.SysMsg.{SysMsg}
@@ -289,29 +289,34 @@ module _ {P : Parts} {E : Sink} where
   abbrev pub takes_answer : Stream → UniqueAddress → Option ℕ → Option ℕ → Rule P E
   takes_answer stream v for_uid its_nonce d = answered_as stream v for_uid its_nonce (answer_at stream d.node v for_uid its_nonce) d
 
+  -- An answer that is met by a connection is taken by it; else it is stray.
+  abbrev pub answered_by : Stream → UniqueAddress → ℕ → ℕ → Bool → Rule P E
+  answered_by stream v for_uid its_nonce true = takes_answer stream v (Some for_uid) (Some its_nonce)
+  answered_by stream v for_uid its_nonce false = strays v (Some its_nonce)
+
   -- An answer with both fields is for the connection with that dial number. Where it is not meant for it, or there is none, it is stray.
   abbrev pub answered_to : UniqueAddress → ℕ → ℕ → Rule P E
   answered_to v for_uid its_nonce d =
-      to_one (dialed_as its_nonce (peer_at v.address d.node)) (stream_dialed its_nonce (peer_at v.address d.node)) d
-    where
-      to_one : Bool → Stream → Rule P E
-      to_one false stream e = strays v (Some its_nonce) e
-      to_one true stream e =
-          (if is_met (answer_at stream e.node v (Some for_uid) (Some its_nonce)) then takes_answer stream v (Some for_uid) (Some its_nonce)
-          else strays v (Some its_nonce)) e
+      answered_by (stream_dialed its_nonce (peer_at v.address d.node)) v for_uid its_nonce
+          (dialed_as its_nonce (peer_at v.address d.node)
+           && is_met (answer_at (stream_dialed its_nonce (peer_at v.address d.node)) d.node v (Some for_uid) (Some its_nonce))) d
+
+  -- An answer that was met by no connection is stray.
+  abbrev pub strays_unless : Bool → UniqueAddress → Rule P E
+  strays_unless true v = stays
+  strays_unless false v = strays v None
+
+  -- The ordinary connection takes an answer. Where it was met neither by this nor before, it is stray.
+  abbrev pub then_ordinary : Bool → UniqueAddress → Option ℕ → Option ℕ → Rule P E
+  then_ordinary met v for_uid its_nonce d =
+      (takes_answer streams.Ordinary v for_uid its_nonce
+       ▸ strays_unless (met || is_met (answer_at streams.Ordinary d.node v for_uid its_nonce)) v) d
 
   -- An answer without both fields is for the control connection and then, always, for the ordinary one. Where it is meant for neither, it is stray.
   abbrev pub answered_plainly : UniqueAddress → Option ℕ → Option ℕ → Rule P E
   answered_plainly v for_uid its_nonce d =
-      (takes_answer streams.Control v for_uid its_nonce ▸ then_ordinary (is_met (answer_at streams.Control d.node v for_uid its_nonce))) d
-    where
-      unless_met : Bool → Rule P E
-      unless_met true = stays
-      unless_met false = strays v None
-
-      then_ordinary : Bool → Rule P E
-      then_ordinary met e =
-          (takes_answer streams.Ordinary v for_uid its_nonce ▸ unless_met (met || is_met (answer_at streams.Ordinary e.node v for_uid its_nonce))) e
+      (takes_answer streams.Control v for_uid its_nonce
+       ▸ then_ordinary (is_met (answer_at streams.Control d.node v for_uid its_nonce)) v for_uid its_nonce) d
 
   -- A handshake answer came.
   abbrev pub answered : UniqueAddress → Option ℕ → Option ℕ → Rule P E

@@ -12,6 +12,7 @@ use Rattle.artery_delivery.specs.declared.outbound.Acked.{Acked}
 use Rattle.artery_delivery.specs.declared.outbound.Acked.TheVariants.{Cleared, Past}
 use Rattle.artery_delivery.specs.declared.inbound.Take.{Take}
 use Rattle.artery_delivery.specs.declared.inbound.Take.TheVariants.{Taken, Again, Gap}
+use Rattle.artery_frame.specs.declared.stream.Stream.{Stream}
 use Rattle.artery_header.specs.Envelope.{EnvelopeOf, NameOf, Literal, Index}
 use Rattle.artery_journal.specs.declared.line.Line.TheVariants as lines
 use Rattle.artery_journal.specs.declared.rule.Rule.TheVariants as rules
@@ -196,6 +197,10 @@ module _ {P : Parts} {E : Sink} where
   abbrev pub hears_beat : UniqueAddress → Rule P E
   hears_beat v d = where_true (is_now v d.node && watches_at v.address d.node) (peer_becomes v.address (heard_at d.node.moment)) d
 
+  -- A heartbeat is answered with the own UID.
+  abbrev pub beats_back : UniqueAddress → Rule P E
+  beats_back v d = on_control v (controls.HeartbeatRsp d.node.me.uid) d
+
   -- The notice that an incarnation closed this one, or another one.
   abbrev pub noticed : ℕ → UniqueAddress → UniqueAddress → Rule P E
   noticed conn v to d = (if same_unique to d.node.me then tells_of (λ me. lines.Notice me v) else drops conn rules.NotMe) d
@@ -235,9 +240,6 @@ module _ {P : Parts} {E : Sink} where
   controlled conn v (controls.Ack n from) = of_current conn v (acked conn v n)
   controlled conn v (controls.Nack n from) = of_current conn v (nacked conn v n)
   controlled conn v controls.Heartbeat = uses v.address ▸ beats_back v
-    where
-      beats_back : UniqueAddress → Rule P E
-      beats_back v d = on_control v (controls.HeartbeatRsp d.node.me.uid) d
   controlled conn v (controls.HeartbeatRsp uid) = hears_beat v
 
   -- A message of a closed incarnation is dropped. Where it is one of those above, the incarnation is told that it is closed.
@@ -267,10 +269,10 @@ module _ {P : Parts} {E : Sink} where
   heard_as i (Says content) = handles i content
 
   -- A frame on an inbound connection, where that is still there.
-  abbrev pub hears_on : Option (Inbound P) → List ℕ → Rule P E
-  hears_on None frame d = d
-  hears_on (Some i) frame d = heard_as i (verdict d.node i frame) d
+  abbrev pub hears_on : Option Stream → Option (Inbound P) → List ℕ → Rule P E
+  hears_on stream None frame d = d
+  hears_on stream (Some i) frame d = heard_as i (verdict stream d.node i frame) d
 
-  -- A frame came on the inbound connection with a number.
-  abbrev pub hears : ℕ → List ℕ → Rule P E
-  hears conn frame d = hears_on (inbound_at conn d.node) frame d
+  -- A frame came on the inbound connection with a number, on this stream.
+  abbrev pub hears : ℕ → Option Stream → List ℕ → Rule P E
+  hears conn stream frame d = hears_on stream (inbound_at conn d.node) frame d

@@ -1,5 +1,5 @@
 -- What the rules ask of what has a whole history and a kept form. They know nothing else of it, so that they are the same over what a node keeps and over whole histories.
-use Rattle.std.specs.Prelude.{ℕ, zero, suc, ◌+◌, ◌-◌, Bool, false, List, [], ◌∷◌, ◌++◌, length, Option, None, Some, Result, Ok, Err}
+use Rattle.std.specs.Prelude.{ℕ, zero, suc, ◌+◌, ◌-◌, Bool, false, is_some, if◌then◌else◌, List, [], ◌∷◌, ◌++◌, length, Option, None, Some, Result, Ok, Err}
 use Rattle.artery_base.specs.declared.message.SysMsg.{SysMsg}
 use Rattle.artery_base.specs.declared.address.UniqueAddress.{UniqueAddress}
 use Rattle.artery_delivery.specs.declared.outbound.Accept.{Accept}
@@ -29,6 +29,7 @@ pub record Parts : Type 1 where
   pub nothing_sent : Out
   pub acceptance : SysMsg → Out → Accept
   pub accepted : SysMsg → Out → Out
+  -- a UID is learnt, unless one is
   pub learnt : Out → Out
   pub forgotten : Out
   pub acknowledgement : ℕ → Out → Acked
@@ -87,6 +88,10 @@ pub record Parts : Type 1 where
 
 -- ---- whole histories
 
+-- All bytes that came and then a piece. A stream that is broken takes nothing more.
+abbrev pub came_whole : List ℕ → List ℕ → List ℕ
+came_whole piece bytes = if is_some (reading_of bytes).end then bytes else bytes ++ piece
+
 -- All bytes of an inbound connection, and all asks and heartbeats of a peer, are their own histories.
 abbrev pub whole : Parts
 whole = record {
@@ -94,7 +99,7 @@ whole = record {
   nothing_sent = out.nothing_sent;
   acceptance = out.answer_to;
   accepted = out.accepted;
-  learnt = out.learnt;
+  learnt = λ s. if s.learnt then s else out.learnt s;
   forgotten = out.forgotten;
   acknowledgement = out.answer_to_ack;
   acknowledged = out.acknowledged;
@@ -128,7 +133,7 @@ whole = record {
   Bytes = List ℕ;
   nothing_came = [];
   frames = λ piece bytes. new_frames bytes piece;
-  came = λ piece bytes. bytes ++ piece;
+  came = came_whole;
   carries = λ bytes. (reading_of bytes).stream;
   fault = λ bytes. (reading_of bytes).end;
   Beats = List heard.Beat;
@@ -160,6 +165,14 @@ frames_gone (suc most) k = frames_gone most (fed.kept_given k)
 abbrev pub answers : fed.Kept → ℕ
 answers k = length k.rest + 1
 
+-- The frames that a piece completes, by what a deframer keeps. One that told a fault takes nothing more.
+abbrev pub frames_kept : List ℕ → fed.Kept → List (List ℕ)
+frames_kept piece k = if is_some k.fault then [] else frames_given (answers (fed.kept_fed piece k)) (fed.kept_fed piece k)
+
+-- What a deframer keeps once the piece came and its frames were given.
+abbrev pub came_kept : List ℕ → fed.Kept → fed.Kept
+came_kept piece k = if is_some k.fault then k else frames_gone (answers (fed.kept_fed piece k)) (fed.kept_fed piece k)
+
 -- What a program keeps: the messages that are not acknowledged, the numbers that are expected, counts of names and five tables, indices by name, bytes that are no whole frame yet, and two moments.
 abbrev pub kept : Parts
 kept = record {
@@ -167,7 +180,7 @@ kept = record {
   nothing_sent = out.nothing_kept;
   acceptance = out.acceptance;
   accepted = out.kept_accepted;
-  learnt = out.kept_learnt;
+  learnt = λ k. if k.learnt then k else out.kept_learnt k;
   forgotten = out.kept_forgotten;
   acknowledgement = out.acknowledgement;
   acknowledged = out.kept_acknowledged;
@@ -200,8 +213,8 @@ kept = record {
   indices = held_indices;
   Bytes = fed.Kept;
   nothing_came = fed.nothing_kept false;
-  frames = λ piece k. frames_given (answers (fed.kept_fed piece k)) (fed.kept_fed piece k);
-  came = λ piece k. frames_gone (answers (fed.kept_fed piece k)) (fed.kept_fed piece k);
+  frames = frames_kept;
+  came = came_kept;
   carries = λ k. k.stream;
   fault = λ k. k.fault;
   Beats = beat.Kept;

@@ -47,9 +47,9 @@ module _ {P : Parts} where
   abbrev pub without_inbound : ℕ → Node P → Node P
   without_inbound number n = record n { inbound = filter (λ i. not (is_number number i)) n.inbound }
 
-  -- A piece came on a connection.
-  abbrev pub with_piece : List ℕ → Inbound P → Inbound P
-  with_piece piece i = record i { bytes = P.came piece i.bytes }
+  -- An inbound connection on which these bytes came.
+  abbrev pub with_bytes : P.Bytes → Inbound P → Inbound P
+  with_bytes bytes i = record i { bytes = bytes }
 
 module _ {P : Parts} {E : Sink} where
   -- ---- inbound connections
@@ -65,12 +65,13 @@ module _ {P : Parts} {E : Sink} where
   ends_broken number None = stays
   ends_broken number (Some fault) = drops number (stream_rule fault) ▸ does (Hangs (Inward number)) ▸ becomes (without_inbound number)
 
-  -- Bytes came on an inbound connection: each frame that is whole now is heard, in order, and a broken stream ends. Where there is no such connection, it is hung up.
+  -- Bytes came on an inbound connection: each frame that is whole now is heard, in order, and a broken stream ends. While its frames are heard what came is set aside. Where there is no such connection, it is hung up.
   abbrev pub comes_on : ℕ → List ℕ → Option (Inbound P) → Rule P E
   comes_on number piece None = does (Hangs (Inward number))
   comes_on number piece (Some i) =
-      inbound_becomes number (with_piece piece)
-      ▸ each (P.frames piece i.bytes) (hears number)
+      inbound_becomes number (with_bytes P.nothing_came)
+      ▸ each (P.frames piece i.bytes) (hears number (P.carries (P.came piece i.bytes)))
+      ▸ inbound_becomes number (with_bytes (P.came piece i.bytes))
       ▸ ends_broken number (P.fault (P.came piece i.bytes))
 
   -- Bytes came on the inbound connection with a number.

@@ -194,11 +194,6 @@ judged shut (Ok content) = if shut && not (is_handshake content) then OfClosed c
 abbrev pub unless_dropped : {X : Type 0} → Bool → Rule → X → Result X Rule
 unless_dropped good rule x = if good then Ok x else Err rule
 
--- An envelope that is read, or the rule for its fault.
-abbrev pub envelope_or_rule : Result EnvelopeOf HeaderFault → Result EnvelopeOf Rule
-envelope_or_rule (Ok envelope) = Ok envelope
-envelope_or_rule (Err fault) = Err (header_rule fault)
-
 -- What an envelope means, or the rule for a name that means nothing.
 abbrev pub meaning_or_rule : Result Meaning DropRule → Result Meaning Rule
 meaning_or_rule (Ok m) = Ok m
@@ -208,22 +203,36 @@ meaning_or_rule (Err rule) = Err (codec_rule rule)
 abbrev pub meant : (P : Parts) → OfKinds P.Announced → EnvelopeOf → Result Meaning DropRule
 meant P tables envelope = envelope_meaning (P.entries tables.refs) (P.entries tables.manifests) envelope
 
+-- What an envelope with this meaning says on a connection, or the first of these rules that drops it: a name means nothing; it does not belong on the stream; it is no control message; nobody is known to speak yet and it is no handshake; it is not from the one that it says.
+unfoldable pub said_by : InState → Option Stream → EnvelopeOf → Result Meaning Rule → Result Content Rule
+said_by state stream envelope meaning = do
+  m ← meaning
+  on_stream ← unless_dropped (belongs stream m) rules.Stream m
+  content ← content_of envelope m
+  handshake ← unless_dropped (is_some (speaker_in state) || is_handshake content) rules.NoHandshake content
+  unless_dropped (is_from envelope.uid state content) rules.From content
+
 module _ {P : Parts} where
   -- The tables by which the names on a connection are read: those announced to its origin, and empty ones where none is known.
   abbrev pub tables_for : InState → Node P → OfKinds P.Announced
   tables_for Raw n = of_each P.nothing_announced
   tables_for (Known who its_nonce) n = (origin_at who n).tables
 
-  -- What a frame says, or the first of these rules that drops it: it is no envelope; its UID is not the origin's; a name means nothing; it does not belong on the stream; it is no control message; nobody is known to speak yet and it is no handshake; it is not from the one that it says.
-  unfoldable pub content_in : Node P → Inbound P → List ℕ → Result Content Rule
-  content_in n i frame = do
-    envelope ← envelope_or_rule (read_of frame)
-    of_origin ← unless_dropped (is_uid_of i.state envelope.uid) rules.Uid envelope
-    m ← meaning_or_rule (meant P (tables_for i.state n) envelope)
-    on_stream ← unless_dropped (belongs (P.carries i.bytes) m) rules.Stream m
-    content ← content_of envelope m
-    handshake ← unless_dropped (is_some (speaker_in i.state) || is_handshake content) rules.NoHandshake content
-    unless_dropped (is_from envelope.uid i.state content) rules.From content
+  -- What an envelope on this stream says: one whose UID is not the origin's is dropped before its names are read.
+  abbrev pub envelope_said : Option Stream → Node P → Inbound P → EnvelopeOf → Result Content Rule
+  envelope_said stream n i envelope =
+      if is_uid_of i.state envelope.uid
+      then said_by i.state stream envelope (meaning_or_rule (meant P (tables_for i.state n) envelope))
+      else Err rules.Uid
+
+  -- What is read of a frame says that; a frame that is no envelope is dropped for its fault.
+  abbrev pub read_said : Option Stream → Node P → Inbound P → Result EnvelopeOf HeaderFault → Result Content Rule
+  read_said stream n i (Ok envelope) = envelope_said stream n i envelope
+  read_said stream n i (Err fault) = Err (header_rule fault)
+
+  -- What a frame on this stream says, or the first of the rules that drops it.
+  abbrev pub content_in : Option Stream → Node P → Inbound P → List ℕ → Result Content Rule
+  content_in stream n i frame = read_said stream n i (read_of frame)
 
   -- Whether the origin that is known on a connection was closed.
   abbrev pub is_shut : Node P → Option UniqueAddress → Bool
@@ -231,5 +240,5 @@ module _ {P : Parts} where
   is_shut n (Some v) = has_closed v n
 
   -- The verdict on a frame: the first rule that drops it, or what it says. Behind the rules above, all but a handshake is dropped where the origin was closed.
-  abbrev pub verdict : Node P → Inbound P → List ℕ → Verdict
-  verdict n i frame = judged (is_shut n (speaker_in i.state)) (content_in n i frame)
+  abbrev pub verdict : Option Stream → Node P → Inbound P → List ℕ → Verdict
+  verdict stream n i frame = judged (is_shut n (speaker_in i.state)) (content_in stream n i frame)
