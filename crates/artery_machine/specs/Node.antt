@@ -17,6 +17,8 @@ use Rattle.artery_handshake.specs.declared.in_conn.InState.TheVariants.{Raw, Kno
 use Rattle.artery_journal.specs.declared.words.Kind.{Kind}
 use Rattle.artery_journal.specs.declared.words.Kind.TheVariants.{Refs, Manifests}
 use Rattle.artery_watch.specs.Watcher.{Kept as Watching, nothing_kept as nothing_watched}
+pub use Rattle.artery_machine.specs.declared.link.Link.{Link}
+pub use Rattle.artery_machine.specs.declared.link.Answer.{Answer}
 use Rattle.artery_machine.specs.Lists.{or_else}
 use Rattle.artery_machine.specs.Parts.{Parts}
 
@@ -50,11 +52,6 @@ of_each t = record { refs = t; manifests = t }
 abbrev pub change_kind : {T : Type 0} → Kind → (T → T) → OfKinds T → OfKinds T
 change_kind Refs change both = record both { refs = change both.refs }
 change_kind Manifests change both = record both { manifests = change both.manifests }
-
--- An own connection of a peer, if there is one, and the moment from which it may be dialed again.
-pub record Link : Type 0 where
-  pub conn : Option OutConn
-  pub redial : ℕ
 
 -- No connection was made yet.
 abbrev pub no_link : Link
@@ -91,11 +88,6 @@ new_peer {P} address = record {
   beats = P.no_beats;
   last_beat = None;
 }
-
--- The answer to a handshake request: the UID that asked and the nonce of its request, or neither where the request had no nonce.
-pub record Answer : Type 0 where
-  pub for_uid : Option ℕ
-  pub nonce : Option ℕ
 
 -- An inbound connection: its number, its bytes, who is known to speak on it, the answer that is owed, and for each kind the number of the table that was last seen to be used on it.
 pub record Inbound (P : Parts) : Type 0 where

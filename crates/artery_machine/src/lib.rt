@@ -13,6 +13,7 @@
 mod effect;
 mod input;
 mod laws;
+mod link;
 mod world;
 
 pub use effect::Effect;
@@ -21,4 +22,5 @@ pub use laws::{
     a_message_is_sent, a_network_ends, a_network_starts, a_node_is_met, a_node_starts,
     a_peer_sleeps, patience_ends,
 };
+pub use link::{Answer, Link};
 pub use world::{Why, WorldLimit};
