@@ -2,7 +2,7 @@ use crate::lines::Lines;
 use crate::stamped::StampedLines;
 
 /// A journal in one of its two forms.
-#[derive(Clone, Debug, Drop)]
+#[derive(Debug, Drop)]
 pub enum Journal {
     /// Form 1: lines alone.
     Plain(Lines),

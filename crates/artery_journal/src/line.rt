@@ -4,7 +4,7 @@ use artery_base::{SysMsg, Tell, Text, UniqueAddress};
 
 /// One line of a journal: what the incarnation `of` did. `other` is an incarnation of another system. A `nonce` is that
 /// of an inbound connection or of an answer, where it has one.
-#[derive(Clone, Debug, PartialEq, Eq, Drop)]
+#[derive(Debug, PartialEq, Eq, Drop)]
 pub enum Line {
     /// `U started`
     Started {

@@ -7,7 +7,7 @@ use std::alloc::Global;
 use std::marker::Model;
 
 /// Lines of a journal, in the order written.
-#[derive(Clone, Debug, Drop)]
+#[derive(Debug, Drop)]
 pub struct Lines {
     items: Vec<Line>,
 }

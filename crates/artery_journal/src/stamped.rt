@@ -7,7 +7,7 @@ use std::alloc::Global;
 use std::marker::Model;
 
 /// A line of a journal with the moment at which it was written.
-#[derive(Clone, Debug, PartialEq, Eq, Drop)]
+#[derive(Debug, PartialEq, Eq, Drop)]
 pub struct Stamped {
     /// The moment of the incarnation that wrote the line, in milliseconds, below 2^62.
     pub moment: u64,
@@ -16,7 +16,7 @@ pub struct Stamped {
 }
 
 /// Lines of a journal with their moments, in the order written.
-#[derive(Clone, Debug, Drop)]
+#[derive(Debug, Drop)]
 pub struct StampedLines {
     items: Vec<Stamped>,
 }

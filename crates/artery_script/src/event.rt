@@ -2,7 +2,7 @@ use artery_base::{Request, UniqueAddress};
 
 /// What happens in a network, as one line of a script tells it. A connection is named by the UID of
 /// the incarnation that dialed it and the number of the dial.
-#[derive(Clone, Debug, PartialEq, Eq, Drop)]
+#[derive(Debug, PartialEq, Eq, Drop)]
 pub enum Event {
     /// An incarnation starts.
     Start { unique: UniqueAddress },

@@ -11,7 +11,7 @@ use std::alloc::Global;
 use std::marker::Model;
 
 /// A request line of a node: its number, and what is asked.
-#[derive(Clone, Debug, PartialEq, Eq, Drop)]
+#[derive(Debug, PartialEq, Eq, Drop)]
 pub struct RequestLine {
     /// The number of the line in the text, counted from 1, empty lines and remarks counted.
     pub line: u64,
@@ -22,7 +22,7 @@ pub struct RequestLine {
 }
 
 /// The requests of a node with the numbers of their lines, in order.
-#[derive(Clone, Debug, Drop)]
+#[derive(Debug, Drop)]
 pub struct Requests {
     items: Vec<RequestLine>,
 }

@@ -12,7 +12,7 @@ use std::alloc::Global;
 use std::marker::Model;
 
 /// A line of a script: its number and what it tells.
-#[derive(Clone, Debug, PartialEq, Eq, Drop)]
+#[derive(Debug, PartialEq, Eq, Drop)]
 pub struct ScriptLine {
     /// The number of the line in the text, counted from 1, empty lines and remarks counted.
     pub line: u64,
@@ -41,7 +41,7 @@ impl From<NoMemory> for ScriptFault {
 }
 
 /// The events of a script with the numbers of their lines, in order.
-#[derive(Clone, Debug, Drop)]
+#[derive(Debug, Drop)]
 pub struct Script {
     items: Vec<ScriptLine>,
 }
