@@ -1,0 +1,14 @@
+pub mod Over
+pub mod OverSending
+pub mod OverTelling
+pub mod OverHandshaking
+pub mod OverHearing
+pub mod OverTicking
+pub mod Same
+pub mod Streams
+pub mod Both
+pub mod Outcomes
+pub mod Leaving
+pub mod Takes
+pub mod Keeping
+pub mod Cuts

@@ -1,0 +1,6 @@
+pub mod Over
+pub mod Standing
+pub mod Bytes
+pub mod Outcome
+pub mod Taking
+pub mod Cutting
