@@ -15,6 +15,7 @@ use std::{env, io};
 const USAGE: &[u8] = b"artery show < BYTES             tells the bytes of one connection in lines
 artery make < LINES             writes the bytes that stream and frame lines tell
 artery check control M < HEX    tells the control message of a payload under the manifest M
+artery check journal < JOURNAL  tells whether a journal is lawful, or its first line that is not
 artery replay < SCRIPT          writes the journal of a script of a network
 artery --help                   tells this
 artery --version                tells the version

@@ -11,7 +11,7 @@ use Rattle.artery_making.specs.declared.fault.MakeFault.TheVariants as make_faul
 use Rattle.artery_cli.specs.declared.command.Command.{Command}
 use Rattle.artery_cli.specs.declared.command.Command.TheVariants.{Show, Whole}
 use Rattle.artery_cli.specs.declared.command.Task.{Task}
-use Rattle.artery_cli.specs.declared.command.Task.TheVariants.{Replay, Make, CheckControl}
+use Rattle.artery_cli.specs.declared.command.Task.TheVariants.{Replay, Make, CheckControl, CheckJournal}
 use Rattle.artery_cli.specs.Limits.{most_bytes}
 use Rattle.artery_cli.specs.declared.refusal.Refusal.{Refusal}
 use Rattle.artery_cli.specs.declared.refusal.Refusal.TheVariants.{TooManyBytes, TooManyLines, BadLine}
@@ -21,6 +21,16 @@ use Rattle.artery_control.specs.declared.fault.ControlFault.{ControlFault}
 use Rattle.artery_control.specs.Message.{message_of}
 use Rattle.artery_lines.specs.Lines.{lines_of}
 use Rattle.artery_lines.specs.Lines.{most_lines}
+use Rattle.artery_journal.specs.declared.journal.Journal.{Journal}
+use Rattle.artery_journal.specs.declared.journal.Journal.TheVariants as journals
+use Rattle.artery_journal_reading.specs.declared.fault.JournalFault.{JournalFault}
+use Rattle.artery_journal_reading.specs.declared.fault.JournalFault.TheVariants as journal_faults
+use Rattle.artery_journal_reading.specs.Journals.{journal_of as journal_told}
+use Rattle.artery_judge.specs.declared.verdict.Law.{Law}
+use Rattle.artery_judge.specs.declared.verdict.Law.TheVariants as laws
+use Rattle.artery_judge.specs.declared.verdict.Verdict.{Verdict}
+use Rattle.artery_judge.specs.declared.verdict.Verdict.TheVariants as verdicts
+use Rattle.artery_judge.specs.Laws.{verdict, lines_of as entries}
 use Rattle.artery_early.specs.declared.script.ScriptFault.{ScriptFault}
 use Rattle.artery_early.specs.declared.script.ScriptFault.TheVariants as script_faults
 use Rattle.artery_early.specs.declared.script.ScriptLine.{ScriptLine}
@@ -45,6 +55,10 @@ pub record Answer : Type 0 where
 pub record Answers (a : Answer) (old new : Option (List ℕ)) (status : ℕ) : Type 0 where
   pub written : Appends old new a.written
   pub is_status : status ≡ a.status
+
+-- this text, and this status
+abbrev pub answer_with : List ℕ → ℕ → Answer
+answer_with text status = record { written = text; status = status }
 
 -- the line that tells that memory ran out
 abbrev pub memory_fault : List ℕ
@@ -171,6 +185,38 @@ abbrev pub check_answer : List ℕ → Result (List ℕ) Refusal → Answer
 check_answer manifest (Ok payload) = checked (message_of manifest payload)
 check_answer manifest (Err refusal) = refusal_answer refusal
 
+-- ---- check journal
+
+-- the word for a law
+abbrev pub law_word : Law → List ℕ
+law_word laws.Prefix = codes "prefix"
+law_word laws.Closed = codes "closed"
+law_word laws.Watch = codes "watch"
+law_word laws.Ordinary = codes "ordinary"
+law_word laws.Stopped = codes "stopped"
+law_word laws.Moment = codes "moment"
+
+-- the number that a line of a journal has in its text: in form 2 a line stands before the journal's first
+abbrev pub text_line : Journal → ℕ → ℕ
+text_line (journals.Plain lines) n = n
+text_line (journals.Stamped lines) n = n + 1
+
+-- a journal that is lawful, or with status 1 its first line that breaks a law, with the first law that it breaks
+abbrev pub verdict_answer : Journal → Verdict → Answer
+verdict_answer journal verdicts.Lawful = record { written = codes "lawful\n"; status = 0 }
+verdict_answer journal (verdicts.Broken line law) = record { written = codes "fault journal " ++ decimal (text_line journal line) ++ codes " " ++ law_word law ++ codes "\n"; status = 1 }
+
+-- the verdict on a journal
+abbrev pub judged : Journal → Answer
+judged journal = verdict_answer journal (verdict (entries journal))
+
+-- a journal that is read is judged; the first bad line is told, and more than 1,000,000 lines
+abbrev pub journal_answer : Result Journal JournalFault → Answer
+journal_answer (Ok journal) = judged journal
+journal_answer (Err (journal_faults.BadLine line)) = refusal_answer (BadLine line)
+journal_answer (Err journal_faults.TooManyLines) = refusal_answer TooManyLines
+journal_answer (Err journal_faults.NoMemory) = memory_answer
+
 -- ---- show
 
 -- the lines of all bytes: the last one tells what is left, or with status 1 the fault of the stream
@@ -192,6 +238,7 @@ abbrev pub text_answer : Task → List ℕ → Answer
 text_answer Replay text = script_answer (script_of text)
 text_answer Make text = made_answer (stream_made text)
 text_answer (CheckControl manifest) text = check_answer manifest (payload_of text)
+text_answer CheckJournal text = journal_answer (journal_told text)
 
 -- an input of more than 67,108,864 bytes is refused
 abbrev pub task_answer : Task → List ℕ → Answer

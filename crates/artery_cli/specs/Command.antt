@@ -4,7 +4,7 @@ use Rattle.std.specs.Result.{result_ok}
 use Rattle.artery_text.specs.Reading.{word_of}
 use Rattle.artery_cli.specs.declared.command.Command.{Command}
 use Rattle.artery_cli.specs.declared.command.Command.TheVariants.{Show, Whole}
-use Rattle.artery_cli.specs.declared.command.Task.TheVariants.{Replay, Make, CheckControl}
+use Rattle.artery_cli.specs.declared.command.Task.TheVariants.{Replay, Make, CheckControl, CheckJournal}
 
 -- the commands of one word
 abbrev pub command_named : List ℕ → Option Command
@@ -19,11 +19,15 @@ check_named word what manifest = if bytes_eq word (codes "check") && bytes_eq wh
     then option_map (λ bytes. Whole (CheckControl bytes)) (result_ok (word_of manifest))
     else None
 
--- the command that the words name, if they name one: `show`, `make`, `replay`, or `check control M`
+-- `check journal`
+abbrev pub check_alone : List ℕ → List ℕ → Option Command
+check_alone word what = if bytes_eq word (codes "check") && bytes_eq what (codes "journal") then Some (Whole CheckJournal) else None
+
+-- the command that the words name, if they name one: `show`, `make`, `replay`, `check journal`, or `check control M`
 abbrev pub command_of : List (List ℕ) → Option Command
 command_of [] = None
 command_of (word ∷ []) = command_named word
-command_of (word ∷ what ∷ []) = None
+command_of (word ∷ what ∷ []) = check_alone word what
 command_of (word ∷ what ∷ manifest ∷ []) = check_named word what manifest
 command_of (word ∷ what ∷ manifest ∷ next ∷ words) = None
 
@@ -33,4 +37,5 @@ is_replay None = false
 is_replay (Some Show) = false
 is_replay (Some (Whole Make)) = false
 is_replay (Some (Whole (CheckControl manifest))) = false
+is_replay (Some (Whole CheckJournal)) = false
 is_replay (Some (Whole Replay)) = true

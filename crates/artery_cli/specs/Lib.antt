@@ -2,6 +2,7 @@ pub mod Limits
 pub mod Command
 pub mod Answers
 pub mod Leaving
+pub mod Telling
 pub mod Checking
 pub mod Reading
 pub mod Playing

@@ -1,9 +1,7 @@
-ghost use Rattle.std.specs.Prelude.{◌≡◌, ◌≤◌, IfOk, IfErr, IsErrOf, Result, Ok, Err};
-ghost use Rattle.artery_io.specs.Faults.{Rose};
-ghost use Rattle.artery_cli.specs.Answers.{Answers, check_answer, checked, payload_in, payload_of};
+ghost use Rattle.std.specs.Prelude.{◌≡◌, IfOk, Result, Ok, Err};
+ghost use Rattle.artery_cli.specs.Answers.{check_answer, checked, payload_in, payload_of};
 ghost use Rattle.artery_cli.specs.Checking.{ReadsPayload, control_memory};
-ghost use Rattle.artery_cli.specs.Leaving.{WritingStops};
-ghost use Rattle.artery_cli.specs.declared.stop.Stop.TheVariants as stops;
+ghost use Rattle.artery_cli.specs.Telling.{AnswersOrStops};
 ghost use Rattle.artery_control.specs.Message.{message_of};
 ghost use Rattle.artery_lines.specs.Lines.{lines_of};
 
@@ -90,11 +88,7 @@ fn check_payload<K: Sink>(
     payload: &[u8],
     output: &mut K,
 ) -> Result<u8, Stop>
-    ensures answers { IfOk result (λ status. Answers (checked (message_of manifest.now payload.now)) (K.held output.old) (K.held output.new) status) }
-    ensures left { IfErr result (λ stop. WritingStops stop (checked (message_of manifest.now payload.now)).written (K.held output.old) (K.held output.new)) }
-    ensures plain { IfOk result (λ status. (status ≡ 3 → ⊥) × (status ≡ 4 → ⊥) × (status ≡ 9 → ⊥)) }
-    ensures later { K.faults output.old ≤ K.faults output.new }
-    ensures write { IsErrOf result stops.Write → Rose (K.faults output.old) (K.faults output.new) }
+    ensures { AnswersOrStops (checked (message_of manifest.now payload.now)) result (K.held output.old) (K.held output.new) (K.faults output.old) (K.faults output.new) }
 {
     match read_control(alloc, manifest, payload) {
         Ok(control) => {
@@ -118,11 +112,7 @@ pub fn check_text<K: Sink>(
     text: &[u8],
     output: &mut K,
 ) -> Result<u8, Stop>
-    ensures answers { IfOk result (λ status. Answers (check_answer manifest.now (payload_of text.now)) (K.held output.old) (K.held output.new) status) }
-    ensures left { IfErr result (λ stop. WritingStops stop (check_answer manifest.now (payload_of text.now)).written (K.held output.old) (K.held output.new)) }
-    ensures plain { IfOk result (λ status. (status ≡ 3 → ⊥) × (status ≡ 4 → ⊥) × (status ≡ 9 → ⊥)) }
-    ensures later { K.faults output.old ≤ K.faults output.new }
-    ensures write { IsErrOf result stops.Write → Rose (K.faults output.old) (K.faults output.new) }
+    ensures { AnswersOrStops (check_answer manifest.now (payload_of text.now)) result (K.held output.old) (K.held output.new) (K.faults output.old) (K.faults output.new) }
 {
     match read_payload(alloc, text) {
         Ok(payload) => check_payload(alloc, manifest, payload.as_slice(), output),

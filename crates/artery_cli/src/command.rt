@@ -1,5 +1,5 @@
 ghost use Rattle.std.specs.Prelude.{◌≡◌, IfOk};
-ghost use Rattle.artery_cli.specs.Command.{command_named, check_named, command_of};
+ghost use Rattle.artery_cli.specs.Command.{command_named, check_alone, check_named, command_of};
 
 use artery_base::{Bytes, NoMemory, Text};
 use artery_text::{WordFault, read_word};
@@ -14,6 +14,8 @@ pub enum Task {
     Make,
     /// A payload is told as the control message of this manifest (`check control`).
     CheckControl { manifest: Bytes },
+    /// A journal is judged (`check journal`).
+    CheckJournal,
 }
 
 /// What the words of a call ask for.
@@ -39,6 +41,19 @@ fn command_named(word: &[u8]) -> Option<Command>
         return Some(Command::Whole(Task::Replay));
     }
     None
+}
+
+/// `check journal`.
+fn check_alone(word: &[u8], what: &[u8]) -> Option<Command>
+    ensures { result ≡ check_alone word.now what.now }
+{
+    if word != b"check".as_slice() {
+        return None;
+    }
+    if what != b"journal".as_slice() {
+        return None;
+    }
+    Some(Command::Whole(Task::CheckJournal))
 }
 
 /// `check control` with a manifest.
@@ -69,6 +84,7 @@ pub fn command_of(alloc: Global, words: &[Text]) -> Result<Option<Command>, NoMe
 {
     match words {
         [word] => Ok(command_named(word.as_slice())),
+        [word, what] => Ok(check_alone(word.as_slice(), what.as_slice())),
         [word, what, manifest] => check_named(
             alloc,
             word.as_slice(),

@@ -10,6 +10,7 @@ mod checking;
 mod command;
 mod fault_text;
 mod input;
+mod judging;
 mod making;
 mod playing;
 mod refusal;
@@ -25,5 +26,7 @@ pub use input::MOST_BYTES;
 pub use refusal::Refusal;
 pub use top::run;
 
+#[cfg(test)]
+mod journal_tests;
 #[cfg(test)]
 mod tests;

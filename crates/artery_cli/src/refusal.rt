@@ -1,8 +1,5 @@
-ghost use Rattle.std.specs.Prelude.{◌≡◌, ◌≤◌, IfOk, IfErr, IsErrOf};
-ghost use Rattle.artery_io.specs.Faults.{Rose};
-ghost use Rattle.artery_cli.specs.Answers.{Answers, refusal_answer};
-ghost use Rattle.artery_cli.specs.Leaving.{WritingStops};
-ghost use Rattle.artery_cli.specs.declared.stop.Stop.TheVariants as stops;
+ghost use Rattle.artery_cli.specs.Answers.{refusal_answer};
+ghost use Rattle.artery_cli.specs.Telling.{AnswersOrStops};
 
 use crate::fault_text::bad_line;
 use crate::stop::Stop;
@@ -23,11 +20,7 @@ pub enum Refusal {
 
 /// Tells why an input is refused, and gives the status.
 pub fn refuse<K: Sink>(alloc: Global, refusal: Refusal, output: &mut K) -> Result<u8, Stop>
-    ensures answers { IfOk result (λ status. Answers (refusal_answer refusal) (K.held output.old) (K.held output.new) status) }
-    ensures left { IfErr result (λ stop. WritingStops stop (refusal_answer refusal).written (K.held output.old) (K.held output.new)) }
-    ensures plain { IfOk result (λ status. (status ≡ 3 → ⊥) × (status ≡ 4 → ⊥) × (status ≡ 9 → ⊥)) }
-    ensures later { K.faults output.old ≤ K.faults output.new }
-    ensures write { IsErrOf result stops.Write → Rose (K.faults output.old) (K.faults output.new) }
+    ensures { AnswersOrStops (refusal_answer refusal) result (K.held output.old) (K.held output.new) (K.faults output.old) (K.faults output.new) }
 {
     match refusal {
         Refusal::TooManyBytes => tell(output, b"fault limit bytes\n", 6),

@@ -10,6 +10,7 @@ ghost use Rattle.artery_cli.specs.declared.stop.Stop.TheVariants as stops;
 use crate::checking::check_text;
 use crate::command::Task;
 use crate::input::{Gathered, gather};
+use crate::judging::judge_text;
 use crate::making::make_text;
 use crate::refusal::{Refusal, refuse};
 use crate::replaying::replay_text;
@@ -32,6 +33,7 @@ fn answer_text<K: Sink>(alloc: Global, task: &Task, text: &[u8], output: &mut K)
         Task::Replay => replay_text(alloc, text, output),
         Task::Make => make_text(alloc, text, output),
         Task::CheckControl { manifest } => check_text(alloc, manifest.as_slice(), text, output),
+        Task::CheckJournal => judge_text(alloc, text, output),
     }
 }
 

@@ -1,7 +1,9 @@
 ghost use Rattle.std.specs.Prelude.{◌≡◌, ◌≤◌, OnOk, IfOk, IfErr, IsErrOf};
 ghost use Rattle.std.specs.Io.KnownBytes.{Appends};
 ghost use Rattle.artery_io.specs.Faults.{Rose};
+ghost use Rattle.artery_cli.specs.Answers.{IsDone, answer_with};
 ghost use Rattle.artery_cli.specs.Leaving.{WritingStops};
+ghost use Rattle.artery_cli.specs.Telling.{AnswersOrStops};
 ghost use Rattle.artery_cli.specs.declared.stop.Stop.TheVariants as stops;
 
 use crate::stop::Stop;
@@ -27,6 +29,7 @@ pub fn tell<K: Sink>(output: &mut K, text: &[u8], status: u8) -> Result<u8, Stop
     ensures left { IfErr result (λ stop. WritingStops stop text.now (K.held output.old) (K.held output.new)) }
     ensures later { K.faults output.old ≤ K.faults output.new }
     ensures write { IsErrOf result stops.Write → Rose (K.faults output.old) (K.faults output.new) }
+    ensures ends { IsDone status → AnswersOrStops (answer_with text.now status) result (K.held output.old) (K.held output.new) (K.faults output.old) (K.faults output.new) }
 {
     put(output, text)?;
     Ok(status)

@@ -12,7 +12,8 @@ struct Left {
     written: Bytes,
 }
 
-fn numbers(alloc: Global, failing: &[u64]) -> Result<Numbers, NoMemory> {
+/// The numbers of the calls that fail.
+pub fn numbers(alloc: Global, failing: &[u64]) -> Result<Numbers, NoMemory> {
     let mut list = Numbers::new(alloc);
     for number in failing {
         list.push(*number)?;
@@ -116,7 +117,7 @@ pass 1
 ";
 
 /// What the three nodes do.
-const THREE_JOURNAL: &[u8] = b"akka://A@h1:1#1 started
+pub const THREE_JOURNAL: &[u8] = b"akka://A@h1:1#1 started
 akka://B@h2:1#2 started
 akka://C@h3:1#3 started
 akka://A@h1:1#1 learnt akka://B@h2:1#2
@@ -431,6 +432,7 @@ fn payloads_are_checked(rt: HostRuntime) -> Result<(), Fail> {
     assert!(rt; tells(alloc, b"check control %6d", b"-\n", b"fault words\n", 2)?);
     assert!(rt; tells(alloc, b"check control", b"-\n", b"fault words\n", 2)?);
     assert!(rt; tells(alloc, b"check journal x", b"-\n", b"fault words\n", 2)?);
+    assert!(rt; tells(alloc, b"journal check", b"", b"fault words\n", 2)?);
     Ok(())
 }
 
@@ -480,7 +482,7 @@ fn faults_of_the_outside_are_told(rt: HostRuntime) -> Result<(), Fail> {
 }
 
 /// So many copies of a line.
-fn copies(alloc: Global, line: &[u8], count: u64) -> Result<Bytes, NoMemory> {
+pub fn copies(alloc: Global, line: &[u8], count: u64) -> Result<Bytes, NoMemory> {
     let mut text = Bytes::new(alloc);
     for _ in 0..count {
         text.extend_from_slice(line)?;

@@ -97,6 +97,9 @@ fn finish<K: Sink>(output: &mut K, text: &[u8], status: u8) -> u8
 /// - `make` reads such lines, `stream` and `frame` alone, and writes the bytes.
 /// - `check control M` reads a payload in hexadecimal on one line and tells the control message that
 ///   it is under the manifest M, or with status 1 `fault control FAULT`.
+/// - `check journal` reads a journal of either form and tells `lawful`, or with status 1
+///   `fault journal K LAW`, K being the first line of the text that breaks a law and LAW the first
+///   such law.
 /// - `replay` reads a script and writes the journal of its events in order; where an event does not
 ///   happen, `fault line K ..` follows, K being its line.
 ///

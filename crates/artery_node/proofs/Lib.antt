@@ -1,0 +1,7 @@
+pub mod Places
+pub mod Terminated
+pub mod Pumping
+pub mod Overflows
+pub mod Each
+pub mod Unwatched
+pub mod Sent
