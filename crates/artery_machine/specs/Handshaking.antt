@@ -298,8 +298,8 @@ module _ {P : Parts} {E : Sink} where
   abbrev pub answered_to : UniqueAddress → ℕ → ℕ → Rule P E
   answered_to v for_uid its_nonce d =
       answered_by (stream_dialed its_nonce (peer_at v.address d.node)) v for_uid its_nonce
-          (dialed_as its_nonce (peer_at v.address d.node)
-           && is_met (answer_at (stream_dialed its_nonce (peer_at v.address d.node)) d.node v (Some for_uid) (Some its_nonce))) d
+      (dialed_as its_nonce (peer_at v.address d.node)
+      && is_met (answer_at (stream_dialed its_nonce (peer_at v.address d.node)) d.node v (Some for_uid) (Some its_nonce))) d
 
   -- An answer that was met by no connection is stray.
   abbrev pub strays_unless : Bool → UniqueAddress → Rule P E
@@ -310,13 +310,13 @@ module _ {P : Parts} {E : Sink} where
   abbrev pub then_ordinary : Bool → UniqueAddress → Option ℕ → Option ℕ → Rule P E
   then_ordinary met v for_uid its_nonce d =
       (takes_answer streams.Ordinary v for_uid its_nonce
-       ▸ strays_unless (met || is_met (answer_at streams.Ordinary d.node v for_uid its_nonce)) v) d
+      ▸ strays_unless (met || is_met (answer_at streams.Ordinary d.node v for_uid its_nonce)) v) d
 
   -- An answer without both fields is for the control connection and then, always, for the ordinary one. Where it is meant for neither, it is stray.
   abbrev pub answered_plainly : UniqueAddress → Option ℕ → Option ℕ → Rule P E
   answered_plainly v for_uid its_nonce d =
       (takes_answer streams.Control v for_uid its_nonce
-       ▸ then_ordinary (is_met (answer_at streams.Control d.node v for_uid its_nonce)) v for_uid its_nonce) d
+      ▸ then_ordinary (is_met (answer_at streams.Control d.node v for_uid its_nonce)) v for_uid its_nonce) d
 
   -- A handshake answer came.
   abbrev pub answered : UniqueAddress → Option ℕ → Option ℕ → Rule P E
