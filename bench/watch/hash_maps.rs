@@ -1,5 +1,6 @@
 //! The same remote watches in std's `HashMap`s, in plain Rust.
 use std::collections::HashMap;
+use std::time::Instant;
 
 const ACTORS: u64 = 64;
 const WATCHERS: u64 = 4_096;
@@ -82,26 +83,40 @@ fn main() {
         })
         .collect();
     let mut all = Watcher::default();
+    let start = Instant::now();
     for path in &paths {
         all.spawn(path);
     }
-    let (mut added, mut removed, mut stood, mut number) = (0, 0, 0, 0);
-    for watcher in &watchers {
-        for path in &paths {
-            added += all.remote_watch(path, watcher, &origins[number % 262]) as u64;
-            number += 1;
+    let each = || watchers.iter().flat_map(|watcher| paths.iter().map(move |path| (path, watcher))).enumerate();
+    let mut added = 0;
+    for (number, (path, watcher)) in each() {
+        added += all.remote_watch(path, watcher, &origins[number % 262]) as u64;
+    }
+    tell("remote_watch", added, start);
+    let start = Instant::now();
+    let mut removed = 0;
+    for (number, (path, watcher)) in each() {
+        removed += (number % 2 == 1 && all.remote_unwatch(path, watcher, &origins[number % 262])) as u64;
+    }
+    tell("remote_unwatch", removed, start);
+    let start = Instant::now();
+    let mut renewed = 0;
+    for (number, (path, watcher)) in each() {
+        let origin = &origins[number % 262];
+        if number % 2 == 0 && all.remote_unwatch(path, watcher, origin) {
+            all.remote_watch(path, watcher, origin);
+            renewed += 1;
         }
     }
-    number = 0;
-    for watcher in &watchers {
-        for path in &paths {
-            removed += (number % 2 == 1 && all.remote_unwatch(path, watcher, &origins[number % 262])) as u64;
-            number += 1;
-        }
-    }
+    tell("again", renewed, start);
+    let start = Instant::now();
     all.forget_origin(&origins[4]);
-    for path in &paths {
-        stood += all.stop(path).map_or(0, |watchers| watchers.len() as u64);
-    }
-    println!("{added} {removed} {stood}");
+    tell("forget_origin", 1, start);
+    let start = Instant::now();
+    let stood = paths.iter().map(|path| all.stop(path).map_or(0, |watchers| watchers.len() as u64)).sum();
+    tell("stop", stood, start);
+}
+
+fn tell(what: &str, count: u64, start: Instant) {
+    println!("{what} {count} {}", start.elapsed().as_micros());
 }
