@@ -27,15 +27,11 @@ fn removed(mut detector: Detector) -> Detector {
 #[test]
 fn available_for_eleven_seconds(rt: HostRuntime) -> Result<(), Fail> {
     let detector = after(&[], &[5_000]);
-    for (now, want) in [
-        (0, true),
-        (5_000, true),
-        (15_999, true),
-        (16_000, false),
-        (u64::MAX, false),
-    ] {
-        assert_eq!(rt; is_available(&detector, now), want);
-    }
+    assert!(rt; is_available(&detector, 0));
+    assert!(rt; is_available(&detector, 5_000));
+    assert!(rt; is_available(&detector, 15_999));
+    assert!(rt; !is_available(&detector, 16_000));
+    assert!(rt; !is_available(&detector, u64::MAX));
     assert!(rt; is_available(&removed(detector), 16_000));
     Ok(())
 }
