@@ -108,6 +108,24 @@ impl Peer {
         known >= MOST_CLOSED
     }
 
+    /// The answer that `learn` gives here; nothing changes.
+    pub fn would_learn(&self, uid: u64) -> Learn
+        ensures { result ≡ learning uid self.now }
+    {
+        if self.is_closed(uid) {
+            return Learn::WasClosed;
+        }
+        if self.is_current(uid) {
+            return Learn::Same;
+        }
+        if self.is_full() {
+            return Learn::ClosedFull;
+        }
+        Learn::Learnt {
+            former: self.current,
+        }
+    }
+
     /// Makes a UID the current one. A former one is then closed, and is told.
     ///
     /// WasClosed for a closed UID, Same for the current one, ClosedFull where 1,024 others are known: then nothing changes.

@@ -1,5 +1,5 @@
 -- The expected numbers follow the whole lists of messages taken.
-use Rattle.std.proofs.Common.{◌≡◌, ℕ, ◌+◌, Bool, true, false, List, [], ◌∷◌, ◌++◌, length, refl, ap, ◌∙◌, sym, arith, length-append}
+use Rattle.std.proofs.Common.{◌≡◌, ℕ, ◌+◌, ◌-◌, Bool, true, false, List, [], ◌∷◌, ◌++◌, length, refl, ap, ◌∙◌, sym, arith, length-append}
 use Rattle.std.specs.Prelude.{map, Option, Some, None, is_some, unwrap_or, if◌then◌else◌}
 use Rattle.std.specs.Map.{lookup, set_value}
 use Rattle.std.specs.Option.{option_map}
@@ -78,6 +78,9 @@ taken_alike o n m entries all s = record {
   numbers = rw (s.numbers, next_is o all) (taken_or_stays o n m all (is_expected n (length (messages_from o all) + 1)) (expected_is n (length (messages_from o all) + 1)));
 }
 
+last_alike : (o : UniqueAddress) (entries : List (UniqueAddress × ℕ)) (all : List (UniqueAddress × List SysMsg)) → Stands entries all → next_of o entries - 1 ≡ length (messages_from o all)
+last_alike o entries all s = rw s.numbers (let e : next_of o (numbers all) ≡ length (messages_from o all) + 1 = next_is o all in omega (arith, e))
+
 -- the same for what a call answered and left
 pub opening_stands : (o : UniqueAddress) (old new : List (UniqueAddress × ℕ)) (answer : Opened) (all : List (UniqueAddress × List SysMsg)) → Stands old all
     → answer ≡ opening o old → new ≡ with_origin o old → (answer ≡ answer_to_open o all) × Stands new (opened o all)
@@ -86,3 +89,7 @@ opening_stands o old new answer all s is left = (is ∙ opens_alike o old all s,
 pub taking_stands : (o : UniqueAddress) (n : ℕ) (old new : List (UniqueAddress × ℕ)) (answer : Take) (all : List (UniqueAddress × List SysMsg)) (m : SysMsg) → Stands old all
     → answer ≡ taking o n old → new ≡ with_taken o n old → (answer ≡ answer_to_take o n all) × Stands new (taken o n m all)
 taking_stands o n old new answer all m s is left = (is ∙ takes_alike o n old all s, rw left (taken_alike o n m old all s))
+
+pub last_stands : (o : UniqueAddress) (entries : List (UniqueAddress × ℕ)) (all : List (UniqueAddress × List SysMsg)) (last : ℕ) → Stands entries all
+    → last ≡ next_of o entries - 1 → last ≡ length (messages_from o all)
+last_stands o entries all last s is = is ∙ last_alike o entries all s

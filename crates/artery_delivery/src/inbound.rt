@@ -1,8 +1,8 @@
 //! The messages that are expected of many origins.
-ghost use Rattle.std.specs.Prelude.{is_some, ◌≡◌, ℕ, List, [], OnOk, OnErr, IfOk};
+ghost use Rattle.std.specs.Prelude.{is_some, ◌≡◌, ◌-◌, ℕ, List, [], length, OnOk, OnErr, IfOk};
 ghost use Rattle.artery_base.specs.declared.message.SysMsg.{SysMsg};
 ghost use Rattle.artery_base.specs.declared.address.UniqueAddress.{UniqueAddress};
-ghost use Rattle.artery_delivery.specs.Inbound.{expected_of, IsKnown, IsKnownAfter, opening, with_origin, taking, with_taken, answer_to_open, opened, answer_to_take, taken, Stands};
+ghost use Rattle.artery_delivery.specs.Inbound.{expected_of, IsKnown, IsKnownAfter, opening, with_origin, taking, with_taken, answer_to_open, opened, answer_to_take, taken, next_of, messages_from, Stands};
 
 use artery_base::{NoMemory, UniqueAddress};
 use indexmap::IndexMap;
@@ -99,6 +99,28 @@ impl Inbound {
         match &self.expected {
             Some(expected) => expected.contains_key(origin),
             None => false,
+        }
+    }
+
+    /// The number of the last message taken from an origin, 0 where none was.
+    #[tactic(auto, using(crate::proofs::Histories::last_stands))]
+    pub fn last_taken(&self, origin: &UniqueAddress) -> u64
+        ensures entries { result ≡ next_of origin.now self.now - 1 }
+        ensures history { (all : List (UniqueAddress × List SysMsg)) → Stands self.now all → result ≡ length (messages_from origin.now all) }
+    {
+        self.expected(origin).saturating_sub(1)
+    }
+
+    /// The number expected of an origin, 1 where it is not known.
+    fn expected(&self, origin: &UniqueAddress) -> u64
+        ensures { result ≡ next_of origin.now self.now }
+    {
+        let Some(expected) = &self.expected else {
+            return 1;
+        };
+        match expected.get(origin) {
+            Some(next) => *next,
+            None => 1,
         }
     }
 

@@ -192,3 +192,8 @@ numbering_stands version k answer s h is = is ∙ numbers_alike version k s h
 pub resolving_stands : (version index : ℕ) (k : Kept) (answer : Result (Bor (List ℕ)) TableFault) (s : State) → Stands k s
     → Shows (λ name. name.now) answer (entry_kept k version index) → Shows (λ name. name.now) answer (entry_of s.story version index)
 resolving_stands version index k answer s h is = subst (Shows (λ name. name.now) answer) (entries_alike version index k s h) is
+
+pub current_stands : (k : Kept) (s : State) (n : ℕ) → Stands k s → n ≡ number_in k.current → n ≡ s.story.confirmed
+current_stands k s n h is =
+    let within : s.story.confirmed ≤ length s.story.tables = h.story.announced in
+    is ∙ ap number_in h.current ∙ number_is s.story s.story.confirmed within

@@ -165,8 +165,10 @@ impl InTables {
     }
 
     /// The number of the current table, and 0 where there is none.
-    fn current_number(&self) -> u64
-        ensures { result ≡ number_in self.now.current }
+    #[tactic(auto, using(crate::proofs::Histories::current_stands))]
+    pub fn current_number(&self) -> u64
+        ensures kept { result ≡ number_in self.now.current }
+        ensures history { (s : State) → Stands self.now s → result ≡ s.story.confirmed }
     {
         match &self.current {
             Some(table) => table.number,
