@@ -1,7 +1,7 @@
 ghost use Rattle.std.specs.Prelude.{◌≡◌, ◌<◌, ◌^◌, ◌-◌, IfOk, IsErrOf, IsAscii};
 ghost use Rattle.std.specs.Io.KnownBytes.{Appends};
 ghost use Rattle.artery_io.specs.Written.{TakesFront};
-ghost use Rattle.artery.specs.Own.{own_of};
+ghost use Rattle.artery.specs.Own.{own_of, fault_line, fault_status};
 ghost use Rattle.artery.specs.declared.own.WordsFault.TheVariants as faults;
 
 use artery_base::Text;
@@ -53,6 +53,47 @@ pub fn own_of(words: &[Text]) -> Option<Own>
         return Some(Own::Version);
     }
     None
+}
+
+/// What the program does, for `--help`.
+const USAGE: &[u8] = b"artery show < BYTES             tells the bytes of one connection in lines
+artery make < LINES             writes the bytes that stream and frame lines tell
+artery check control M < HEX    tells the control message of a payload under the manifest M
+artery check journal < JOURNAL  tells whether a journal is lawful, or its first line that is not
+artery replay < SCRIPT          writes the journal of a script of a network
+artery --help                   tells this
+artery --version                tells the version
+";
+
+/// The version, for `--version`.
+const VERSION: &[u8] = b"artery 0.1.0\n";
+
+/// What the program tells of itself.
+pub fn own_text(own: Own) -> &'static [u8] {
+    match own {
+        Own::Help => USAGE,
+        Own::Version => VERSION,
+    }
+}
+
+/// The line that is told where the words of the command line are no words.
+pub fn line_of(fault: WordsFault) -> &'static [u8]
+    ensures { result.now ≡ fault_line fault }
+{
+    match fault {
+        WordsFault::NotAscii => b"fault words\n",
+        WordsFault::NoMemory => b"fault memory\n",
+    }
+}
+
+/// The status then: 2 for a word that is not ASCII, 9 for want of memory.
+pub fn status_of(fault: WordsFault) -> u8
+    ensures { result ≡ fault_status fault }
+{
+    match fault {
+        WordsFault::NotAscii => 2,
+        WordsFault::NoMemory => 9,
+    }
 }
 
 /// Tells a text, and gives the status whether it could be told or not.

@@ -1,4 +1,4 @@
-use crate::own::{Own, WordsFault, own_of, tell, word};
+use crate::own::{Own, WordsFault, own_of, own_text, tell, word};
 use artery_base::{Numbers, Text};
 use artery_io::MemSink;
 use std::alloc::Global;
@@ -24,6 +24,11 @@ fn is_told(alloc: Global, failing: bool) -> bool {
     status == 2 && sink.bytes().as_slice() == wanted
 }
 
+fn is_usage(text: &[u8]) -> bool {
+    text.starts_with(b"artery show < BYTES ")
+        && text.ends_with(b"artery --version                tells the version\n")
+}
+
 #[test]
 fn words_of_the_program(rt: HostRuntime) -> Result<(), Fail> {
     let alloc = rt.alloc();
@@ -38,6 +43,8 @@ fn words_of_the_program(rt: HostRuntime) -> Result<(), Fail> {
         assert_eq!(rt; own_answer(alloc, words), want);
     }
     assert_eq!(rt; word(alloc, "\u{e9}").err(), Some(WordsFault::NotAscii));
+    assert!(rt; is_usage(own_text(Own::Help)));
+    assert!(rt; own_text(Own::Version) == b"artery 0.1.0\n".as_slice());
     assert!(rt; is_told(alloc, false));
     assert!(rt; is_told(alloc, true));
     Ok(())
