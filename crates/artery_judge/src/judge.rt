@@ -179,9 +179,12 @@ impl<'a> Judge<'a> {
     fn breaks_moment(&self, moment: Option<u64>, line: &'a Line) -> bool
         ensures { result ≡ finds_moment (kept self.now) (moment, line.now) }
     {
-        match (moment, self.nodes.get(of(line))) {
-            (Some(moment), Some(node)) => moment < node.moment,
-            _ => false,
+        let Some(moment) = moment else {
+            return false;
+        };
+        match self.nodes.get(of(line)) {
+            Some(node) => moment < node.moment,
+            None => false,
         }
     }
 
