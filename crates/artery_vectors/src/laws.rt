@@ -6,8 +6,8 @@ ghost use Rattle.artery_vectors.specs.declared.fields.TheConstants.{NEGATIVE_SER
 ghost use Rattle.artery_vectors.specs.declared.frames.TheConstants.{HANDSHAKE_REQUEST, HANDSHAKE_ANSWER, NUMBERED_MESSAGE, ACKNOWLEDGEMENT, SECOND_TELL};
 ghost use Rattle.artery_wire.specs.Writing.{field_bytes, record_bytes, uint_field};
 
-/// A law, with no code: each frame is what is written of its envelope, behind four bytes that tell its
-/// length, the lowest first.
+/// A law, with no code: each frame begins with four bytes that tell the length of what is behind them,
+/// the lowest first.
 pub fn frames_are_framed()
     ensures request { HANDSHAKE_REQUEST ≡ framed (drop 4 HANDSHAKE_REQUEST) }
     ensures answer { HANDSHAKE_ANSWER ≡ framed (drop 4 HANDSHAKE_ANSWER) }
@@ -16,8 +16,8 @@ pub fn frames_are_framed()
     ensures tell { SECOND_TELL ≡ framed (drop 4 SECOND_TELL) }
 {}
 
-/// A law, with no code: a negative serializer is written as the number modulo 2^64, and the values of a
-/// table each in a field of their own.
+/// A law, with no code: serializer -1 is written as the number modulo 2^64, and the values 0 and 1 each in
+/// a field of their own.
 #[tactic(auto, unfolding(artery_wire::specs::Writing::field_bytes, artery_wire::specs::Writing::varint_of, artery_wire::specs::Writing::digits_within))]
 pub fn fields_are_written()
     ensures serializer { field_bytes (uint_field 2 (2 ^ 64 - 1)) ≡ NEGATIVE_SERIALIZER }
