@@ -18,4 +18,4 @@ nanoseconds() {
 proved=$(nanoseconds "$program" "$work/proved.txt")
 plain=$(nanoseconds "$work/hash_map" "$work/plain.txt")
 cmp "$work/proved.txt" "$work/plain.txt"
-echo "proved: $((proved / 1000000)) ms, HashMap: $((plain / 1000000)) ms, ratio: $((proved * 100 / plain)) %"
+echo "proved: $((proved / 1000000)) ms, HashMap: $((plain / 1000000)) ms, time as a part of HashMap's: $((proved * 100 / plain)) %"

@@ -20,6 +20,6 @@ paste -d' ' "$work/proved.txt" "$work/plain.txt" | awk '
     END {
         for (i = 1; i <= n; i++) {
             step = steps[i]
-            printf "%-14s proved: %7d, HashMaps: %7d, ratio: %.2f\n", step, proved[step], plain[step], proved[step] / plain[step]
+            printf "%-14s proved: %7d, HashMaps: %7d, time as a part of HashMaps\047: %.2f\n", step, proved[step], plain[step], proved[step] / plain[step]
         }
     }'
