@@ -12,6 +12,7 @@ use Rattle.indexmap.specs.IndexMap.{insert_entry, swap_remove_entry}
 use Rattle.indexmap.proofs.MapLemmas.{swap_remove_entry-found}
 use Rattle.artery_base.specs.declared.address.UniqueAddress.{UniqueAddress}
 use Rattle.artery_watch.specs.declared.remote.RemoteWatcher.{RemoteWatcher}
+use Rattle.artery_watch.specs.contracts.remote.RemoteWatcherPartialEq.TheImpl as remote_eq
 use Rattle.artery_watch.specs.contracts.remote.RemoteWatcherEq.TheImpl.Laws.{laws-law}
 use Rattle.artery_watch.specs.Keys.{same_remote, same_origin}
 use Rattle.artery_watch.specs.Standing.{standing}
@@ -127,7 +128,7 @@ standing_last ((x, true) ∷ es) r = ap (λ (xs : List RemoteWatcher). x ∷ xs)
 standing_last ((x, false) ∷ es) r = standing_last es r
 
 -- a new one is the last
-pub last_stands : (r : RemoteWatcher) (es new : Places) → is_some (lookup (same_remote r) es) ≡ false → new ≡ insert_entry same_remote es r true → standing new ≡ standing es ++ r ∷ []
+pub last_stands : (r : RemoteWatcher) (es new : Places) → is_some (lookup (same_remote r) es) ≡ false → new ≡ insert_entry (remote_eq.ghosts).eq es r true → standing new ≡ standing es ++ r ∷ []
 last_stands r es new h is = ap standing is ∙ ap standing (inserted_last same_remote r true es h) ∙ standing_last es r
 
 pub few_stand : (es : Places) → length (standing es) ≤ length es
@@ -228,7 +229,7 @@ swapped t f es found =
 
 -- a filler in the place of one that does not stand changes nothing
 pub place_given : (r f : RemoteWatcher) (es mid new : Places) → IsDistinct same_remote (keys_of es) → is_among r (standing es) ≡ false → is_some (lookup (same_remote r) es) ≡ true
-    → is_some (lookup (same_remote f) es) ≡ false → mid ≡ insert_entry same_remote es f false → new ≡ swap_remove_entry (same_remote r) mid → standing new ≡ standing es
+    → is_some (lookup (same_remote f) es) ≡ false → mid ≡ insert_entry (remote_eq.ghosts).eq es f false → new ≡ swap_remove_entry ((remote_eq.ghosts).eq r) mid → standing new ≡ standing es
 place_given r f es mid new distinct fallen there none was is =
     let found = is_found (lookup (same_remote r) es) there false (λ w e. stands_is r es w distinct e ∙ fallen) in
     ap standing is ∙ ap (λ m. standing (swap_remove_entry (same_remote r) m)) (was ∙ inserted_last same_remote f false es none) ∙ swapped (same_remote r) f es found
