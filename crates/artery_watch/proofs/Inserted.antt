@@ -9,6 +9,7 @@ use Rattle.std.proofs.lemmas.Bool.Decides.{nat_tests}
 use Rattle.std.proofs.lemmas.Map.Made.{length-remove_key}
 use Rattle.std.proofs.lemmas.Map.Steps.{set_value_same}
 use Rattle.indexmap.specs.IndexMap.{insert_entry}
+use Rattle.artery_watch.specs.contracts.pair.PairPartialEq.TheImpl as pair_eq
 use Rattle.artery_watch.specs.declared.pair.Pair.{Pair}
 use Rattle.artery_watch.specs.declared.remote.RemoteWatcher.{RemoteWatcher}
 use Rattle.artery_watch.specs.declared.answers.Watch.{Watch}
@@ -45,7 +46,7 @@ new_pair None id w h = refl
 new_pair (Some known) id w h = cc
 
 -- a new pair is inserted actors the last
-pub watch_adds : (p : Pair) (id : ℕ) (w : Watches) (new : List (Pair × ℕ)) → watching p w ≡ Watching id → new ≡ insert_entry same_pair w.list p id → record { list = new; given = id } ≡ watched p w
+pub watch_adds : (p : Pair) (id : ℕ) (w : Watches) (new : List (Pair × ℕ)) → watching p w ≡ Watching id → new ≡ insert_entry (pair_eq.ghosts).eq w.list p id → record { list = new; given = id } ≡ watched p w
 watch_adds p id w new h is = rw (h, is, inserted_last same_pair p id w.list (new_pair (id_of p w) id w h)) refl
 
 -- no more ids are at an address than are in the list

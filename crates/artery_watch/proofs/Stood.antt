@@ -1,9 +1,10 @@
 -- Places of remote watches, of which some do not stand.
-use Rattle.std.proofs.Common.{◌≡◌, ℕ, zero, suc, ◌+◌, ◌-◌, ◌<◌, ◌≤◌, Bool, true, false, cond, List, [], ◌∷◌, ◌++◌, length, refl, ap, sym, ◌∙◌, subst, true≢false, arith, lt-ltb, nat_lt, position}
-use Rattle.std.specs.Prelude.{Option, Some, None, is_some, not, ◌||◌, map, filter, take, slice_set, slice_index_or, if◌then◌else◌}
+use Rattle.std.proofs.Common.{◌≡◌, ℕ, zero, suc, ◌+◌, ◌-◌, ◌<◌, ◌≤◌, ◌^◌, Bool, true, false, cond, List, [], ◌∷◌, ◌++◌, length, refl, ap, sym, ◌∙◌, subst, true≢false, arith, lt-ltb, nat_lt, position}
+use Rattle.std.specs.Prelude.{Option, Some, None, is_some, not, ◌&&◌, ◌||◌, map, filter, take, slice_set, slice_index_or, if◌then◌else◌}
 use Rattle.std.specs.List.{list_any, IsDistinct, AllByRecursion}
 use Rattle.std.specs.Map.{lookup, set_value, keys_of}
 use Rattle.std.proofs.lemmas.Map.Keys.{IsDistinct-head, IsDistinct-tail}
+use Rattle.std.proofs.lemmas.Map.Made.{length-remove_key}
 use Rattle.std.specs.Set.{remove_key}
 use Rattle.std.specs.List.{swap_remove, position_or_len}
 use Rattle.std.proofs.lemmas.List.{length-append, set-append_left, take_at, length-set, get_or_push}
@@ -11,6 +12,7 @@ use Rattle.indexmap.specs.IndexMap.{insert_entry, swap_remove_entry}
 use Rattle.indexmap.proofs.MapLemmas.{swap_remove_entry-found}
 use Rattle.artery_base.specs.declared.address.UniqueAddress.{UniqueAddress}
 use Rattle.artery_watch.specs.declared.remote.RemoteWatcher.{RemoteWatcher}
+use Rattle.artery_watch.specs.contracts.remote.RemoteWatcherPartialEq.TheImpl as remote_eq
 use Rattle.artery_watch.specs.contracts.remote.RemoteWatcherEq.TheImpl.Laws.{laws-law}
 use Rattle.artery_watch.specs.Keys.{same_remote, same_origin}
 use Rattle.artery_watch.specs.Standing.{standing}
@@ -91,24 +93,34 @@ kept_keys ((r, false) ∷ es) = kept_keys es
 pub new_has_none : (r : RemoteWatcher) (es new : Places) → is_among r (standing es) ≡ false → map (λ (place : RemoteWatcher × Bool). place.0) new ≡ standing es → is_some (lookup (same_remote r) new) ≡ false
 new_has_none r es new h is = sym (any_keys (same_remote r) new) ∙ ap (list_any (same_remote r)) is ∙ h
 
--- those from other origins
-others_stand : (o : UniqueAddress) (es : Places) → standing (filter (λ place. not (same_origin o place.0.origin)) es) ≡ not_from o (standing es)
+-- places of those that stand and come from other origins
+abbrev others : UniqueAddress → Places → Places
+others o es = filter (λ place. place.1 && not (same_origin o place.0.origin)) es
+
+others_stand : (o : UniqueAddress) (es : Places) → standing (others o es) ≡ not_from o (standing es)
 others_stand o [] = refl
 others_stand o ((r, true) ∷ es) = by (not (same_origin o r.origin)) (others_stand o es)
   where
-    by : (b : Bool) → standing (filter (λ place. not (same_origin o place.0.origin)) es) ≡ not_from o (standing es)
-        → standing (if b then (r, true) ∷ filter (λ place. not (same_origin o place.0.origin)) es else filter (λ place. not (same_origin o place.0.origin)) es) ≡ (if b then r ∷ not_from o (standing es) else not_from o (standing es))
+    by : (b : Bool) → standing (others o es) ≡ not_from o (standing es) → standing (if b then (r, true) ∷ others o es else others o es) ≡ (if b then r ∷ not_from o (standing es) else not_from o (standing es))
     by true h = ap (λ (xs : List RemoteWatcher). r ∷ xs) h
     by false h = h
-others_stand o ((r, false) ∷ es) = by (not (same_origin o r.origin)) (others_stand o es)
-  where
-    by : (b : Bool) → standing (filter (λ place. not (same_origin o place.0.origin)) es) ≡ not_from o (standing es)
-        → standing (if b then (r, false) ∷ filter (λ place. not (same_origin o place.0.origin)) es else filter (λ place. not (same_origin o place.0.origin)) es) ≡ not_from o (standing es)
-    by true h = h
-    by false h = h
+others_stand o ((r, false) ∷ es) = others_stand o es
 
-pub others_left : (o : UniqueAddress) (es new : Places) → new ≡ filter (λ place. not (same_origin o place.0.origin)) es → standing new ≡ not_from o (standing es)
+pub others_left : (o : UniqueAddress) (es new : Places) → new ≡ filter (λ place. place.1 && not (same_origin o place.0.origin)) es → standing new ≡ not_from o (standing es)
 others_left o es new is = ap standing is ∙ others_stand o es
+
+-- they all stand
+all_stand : (o : UniqueAddress) (es : Places) → length (others o es) ≡ length (standing (others o es))
+all_stand o [] = refl
+all_stand o ((r, true) ∷ es) = by (not (same_origin o r.origin)) (all_stand o es)
+  where
+    by : (b : Bool) → length (others o es) ≡ length (standing (others o es)) → length (if b then (r, true) ∷ others o es else others o es) ≡ length (standing (if b then (r, true) ∷ others o es else others o es))
+    by true h = ap suc h
+    by false h = h
+all_stand o ((r, false) ∷ es) = all_stand o es
+
+pub others_all : (o : UniqueAddress) (es new : Places) (n : ℕ) → n ≡ length new → new ≡ filter (λ place. place.1 && not (same_origin o place.0.origin)) es → n ≡ length (standing new)
+others_all o es new n c is = c ∙ ap (λ (xs : Places). length xs) is ∙ all_stand o es ∙ sym (ap (λ (xs : Places). length (standing xs)) is)
 
 standing_last : (es : Places) (r : RemoteWatcher) → standing (es ++ (r, true) ∷ []) ≡ standing es ++ r ∷ []
 standing_last [] r = refl
@@ -116,13 +128,29 @@ standing_last ((x, true) ∷ es) r = ap (λ (xs : List RemoteWatcher). x ∷ xs)
 standing_last ((x, false) ∷ es) r = standing_last es r
 
 -- a new one is the last
-pub last_stands : (r : RemoteWatcher) (es new : Places) → is_some (lookup (same_remote r) es) ≡ false → new ≡ insert_entry same_remote es r true → standing new ≡ standing es ++ r ∷ []
+pub last_stands : (r : RemoteWatcher) (es new : Places) → is_some (lookup (same_remote r) es) ≡ false → new ≡ insert_entry (remote_eq.ghosts).eq es r true → standing new ≡ standing es ++ r ∷ []
 last_stands r es new h is = ap standing is ∙ ap standing (inserted_last same_remote r true es h) ∙ standing_last es r
 
 pub few_stand : (es : Places) → length (standing es) ≤ length es
 few_stand [] = omega arith
 few_stand ((r, true) ∷ es) = omega (arith, few_stand es)
 few_stand ((r, false) ∷ es) = omega (arith, few_stand es)
+
+-- how many stand once one is added, once one is removed, and where none was there
+pub one_more : (r : RemoteWatcher) (old new : List RemoteWatcher) (n : ℕ) → n ≡ length old → new ≡ old ++ r ∷ [] → n + 1 ≡ length new
+one_more r old new n c is = omega (arith, c, ap (λ (xs : List RemoteWatcher). length xs) is, length-append old (r ∷ []))
+
+pub few_fit : (es : Places) (n len : ℕ) → n ≡ length (standing es) → len ≡ length es → len < 2 ^ 63 → n < 2 ^ 63
+few_fit es n len c is small = omega (arith, c, is, small, few_stand es)
+
+pub one_less : (r : RemoteWatcher) (old new : List RemoteWatcher) (n : ℕ) → n ≡ length old → is_among r old ≡ true → new ≡ remove_key (same_remote r) old → n ≡ length new + 1
+one_less r old new n c h is = omega (arith, c, ap (λ (xs : List RemoteWatcher). length xs) is, length-remove_key (same_remote r) old h)
+
+pub less_fit : (r : RemoteWatcher) (old : List RemoteWatcher) (new : Places) (n len : ℕ) → n ≡ length old → is_among r old ≡ true → standing new ≡ remove_key (same_remote r) old → len ≡ length new → n - 1 ≤ len
+less_fit r old new n len c h is l = omega (arith, l, few_stand new, one_less r old (standing new) n c h is)
+
+pub same_many : (r : RemoteWatcher) (old new : List RemoteWatcher) (n : ℕ) → n ≡ length old → is_among r old ≡ false → new ≡ remove_key (same_remote r) old → n ≡ length new
+same_many r old new n c h is = c ∙ sym (ap (λ (xs : List RemoteWatcher). length xs) (is ∙ kept_absent (same_remote r) old h))
 
 -- the last of a list, put in the place of another
 swap_push : {X : Type 0} (xs : List X) (i : ℕ) (z d : X) → i < length xs → swap_remove (xs ++ z ∷ []) i d ≡ slice_set xs i z
@@ -201,7 +229,7 @@ swapped t f es found =
 
 -- a filler in the place of one that does not stand changes nothing
 pub place_given : (r f : RemoteWatcher) (es mid new : Places) → IsDistinct same_remote (keys_of es) → is_among r (standing es) ≡ false → is_some (lookup (same_remote r) es) ≡ true
-    → is_some (lookup (same_remote f) es) ≡ false → mid ≡ insert_entry same_remote es f false → new ≡ swap_remove_entry (same_remote r) mid → standing new ≡ standing es
+    → is_some (lookup (same_remote f) es) ≡ false → mid ≡ insert_entry (remote_eq.ghosts).eq es f false → new ≡ swap_remove_entry ((remote_eq.ghosts).eq r) mid → standing new ≡ standing es
 place_given r f es mid new distinct fallen there none was is =
     let found = is_found (lookup (same_remote r) es) there false (λ w e. stands_is r es w distinct e ∙ fallen) in
     ap standing is ∙ ap (λ m. standing (swap_remove_entry (same_remote r) m)) (was ∙ inserted_last same_remote f false es none) ∙ swapped (same_remote r) f es found

@@ -1,5 +1,5 @@
 //! The remote watches of one actor.
-ghost use Rattle.std.specs.Prelude.{◌≡◌, ◌+◌, [], ◌∷◌, ◌++◌, is_some, length, map, filter, true, false, not, OnOk, OnErr, IfOk};
+ghost use Rattle.std.specs.Prelude.{◌≡◌, ◌+◌, [], ◌∷◌, ◌++◌, is_some, length, map, filter, true, false, not, ◌&&◌, OnOk, OnErr, IfOk};
 ghost use Rattle.std.specs.Map.{lookup};
 ghost use Rattle.std.specs.Set.{remove_key};
 ghost use Rattle.artery_watch.specs.Keys.{same_remote, same_origin, remote_of};
@@ -14,23 +14,26 @@ use std::marker::Model;
 
 /// The remote watches of one actor, in the order added.
 ///
-/// Each has a place and whether it stands. One that is removed keeps its place as one that does not stand, so that none has to move up; where
-/// it is added again, a filler takes the old place. Such places go together, once they are more than half of all.
+/// Each has a place and whether it stands; how many stand is counted. One that is removed keeps its place as one that does not stand, so that
+/// none has to move up; where it is added again, a filler takes the old place. All places of such as do not stand are given up together: once
+/// they are more than half of all, and where an origin is forgotten.
 #[derive(Drop)]
 pub struct Remotes {
     places: IndexMap<RemoteWatcher, bool>,
-    gone: usize,
+    stand: usize,
     fillers: u64,
 }
 
 impl Model for Remotes {
-    ghost use Rattle.std.specs.Prelude.{List};
+    ghost use Rattle.std.specs.Prelude.{◌≡◌, List, length};
     ghost use Rattle.artery_watch.specs.Standing.{standing};
     ghost use Rattle.artery_watch.specs.declared.remote.RemoteWatcher.{RemoteWatcher};
 
     ghost Value = { List RemoteWatcher };
 
     ghost view = { λ r. standing r.places.entries };
+
+    ghost invariant = { λ r. r.stand ≡ length (standing r.places.entries) };
 }
 
 /// Whether a remote watch stands.
@@ -66,14 +69,14 @@ fn tidy(places: &mut IndexMap<RemoteWatcher, bool>)
     keep_standing(places);
 }
 
-/// Keeps the places of those that came from other origins.
+/// Keeps the places of those that stand and came from other origins.
 fn keep_others(places: &mut IndexMap<RemoteWatcher, bool>, origin: &UniqueAddress)
-    ensures { places.new.entries ≡ filter (λ place. not (same_origin origin.now place.0.origin)) places.old.entries }
+    ensures { places.new.entries ≡ filter (λ place. place.1 && not (same_origin origin.now place.0.origin)) places.old.entries }
 {
     places.retain(
         |remote: &RemoteWatcher, stands: &mut bool| -> bool
-            ensures { (result ≡ not (same_origin origin.entry.now remote.now.origin)) × (stands.new ≡ stands.old) }
-        { !(*origin == remote.origin) },
+            ensures { (result ≡ (stands.old && not (same_origin origin.entry.now remote.now.origin))) × (stands.new ≡ stands.old) }
+        { *stands && !(*origin == remote.origin) },
     );
 }
 
@@ -162,20 +165,6 @@ fn fell(places: &mut IndexMap<RemoteWatcher, bool>, watcher: &Text, origin: &Uni
     stood
 }
 
-/// How many remote watches stand.
-#[tactic(auto, using(crate::proofs::Stood::few_stand))]
-fn count_in(places: &IndexMap<RemoteWatcher, bool>) -> usize
-    ensures { result ≡ length (standing places.now.entries) }
-{
-    let mut count: usize = 0;
-    for (_remote, stands) in places.iter() {
-        if *stands {
-            count += 1;
-        }
-    }
-    count
-}
-
 /// Adds the watcher of a remote watch at the end.
 fn push_watcher(names: &mut Names, remote: &RemoteWatcher) -> Result<(), NoMemory>
     ensures { OnOk result (names.new ≡ names.old ++ remote.now.watcher ∷ []) }
@@ -203,7 +192,7 @@ impl Remotes {
     {
         Remotes {
             places: IndexMap::new(alloc),
-            gone: 0,
+            stand: 0,
             fillers: 0,
         }
     }
@@ -212,7 +201,7 @@ impl Remotes {
     pub fn len(&self) -> usize
         ensures { result ≡ length self.now }
     {
-        count_in(&self.places)
+        self.stand
     }
 
     /// Whether this one is among them.
@@ -223,6 +212,7 @@ impl Remotes {
     }
 
     /// Adds a new one as the last. Without memory nothing changes.
+    #[tactic(auto, using(crate::proofs::Stood::few_fit, crate::proofs::Stood::one_more))]
     pub fn add(
         &mut self,
         alloc: Global,
@@ -233,25 +223,30 @@ impl Remotes {
         ensures ok { OnOk result (self.new ≡ self.old ++ remote_of watcher.now origin.now ∷ []) }
         ensures err { OnErr result (self.new ≡ self.old) }
     {
+        // The length is what says that one more can be counted.
+        let _len = self.places.len();
         let remote = RemoteRef { watcher, origin }.copy(alloc)?;
         self.fillers = self.fillers.wrapping_add(1);
         clear_place(alloc, &mut self.places, &remote, self.fillers)?;
-        push(&mut self.places, remote)
+        push(&mut self.places, remote)?;
+        self.stand += 1;
+        Ok(())
     }
 
     /// Removes one, and answers whether it was there.
+    #[tactic(auto, using(crate::proofs::Stood::less_fit, crate::proofs::Stood::one_less, crate::proofs::Stood::same_many))]
     pub fn remove(&mut self, watcher: &Text, origin: &UniqueAddress) -> bool
         ensures answer { result ≡ is_among (remote_of watcher.now origin.now) self.old }
         ensures rest { self.new ≡ remove_key (same_remote (remote_of watcher.now origin.now)) self.old }
     {
-        let stood = fell(&mut self.places, watcher, origin);
-        self.gone = self.gone.saturating_add(1);
-        if self.gone <= self.places.len() / 2 {
-            return stood;
+        if !fell(&mut self.places, watcher, origin) {
+            return false;
         }
-        self.gone = 0;
-        tidy(&mut self.places);
-        stood
+        self.stand -= 1;
+        if self.places.len() - self.stand > self.places.len() / 2 {
+            tidy(&mut self.places);
+        }
+        true
     }
 
     /// Removes those from this origin.
@@ -260,6 +255,7 @@ impl Remotes {
         ensures { self.new ≡ not_from origin.now self.old }
     {
         keep_others(&mut self.places, origin);
+        self.stand = self.places.len();
     }
 
     /// The watchers, one for each remote watch.

@@ -278,12 +278,6 @@ fn an_address_is_closed(alloc: Global) -> Result<bool, NoMemory> {
     )
 }
 
-#[test]
-fn a_closed_address_ends_its_watches(rt: HostRuntime) -> Result<(), Fail> {
-    assert!(rt; an_address_is_closed(rt.alloc())?);
-    Ok(())
-}
-
 /// Whether the word is at the address.
 fn is_there(place: &Address, word: &str) -> bool {
     is_at(place, word.as_bytes())
@@ -315,8 +309,10 @@ fn texts_are_at_an_address(alloc: Global) -> Result<bool, NoMemory> {
 }
 
 #[test]
-fn a_text_is_at_an_address(rt: HostRuntime) -> Result<(), Fail> {
-    assert!(rt; texts_are_at_an_address(rt.alloc())?);
+fn a_closed_address_ends_the_watches_there(rt: HostRuntime) -> Result<(), Fail> {
+    let alloc = rt.alloc();
+    assert!(rt; texts_are_at_an_address(alloc)?);
+    assert!(rt; an_address_is_closed(alloc)?);
     Ok(())
 }
 
@@ -530,26 +526,31 @@ fn is_bad(alloc: Global, payload: &[u8]) -> bool {
     }
 }
 
-/// Whether the bytes are these, and a notice.
-fn is_notice(alloc: Global, bytes: &[u8], want: &[u8]) -> bool {
-    bytes == want && !is_bad(alloc, bytes)
+/// Whether the bytes are read as the notice of this actor and this watcher.
+fn is_read(alloc: Global, payload: &[u8], actor: &str, watcher: &str) -> bool {
+    match read_notice(alloc, payload) {
+        Ok(notice) => {
+            notice.actor.as_slice() == actor.as_bytes()
+                && notice.watcher.as_slice() == watcher.as_bytes()
+        }
+        Err(_fault) => false,
+    }
 }
 
 fn notice_is_written(alloc: Global) -> Result<bool, NoMemory> {
     let actor = "akka://B@h2:25520/user/x";
-    let out = bytes_of(alloc, actor, "akka://A@h1:25520/user/w")?;
+    let watcher = "akka://A@h1:25520/user/w";
+    let out = bytes_of(alloc, actor, watcher)?;
     let want = "\x18\0akka://B@h2:25520/user/x\x18\0akka://A@h1:25520/user/w";
-    Ok(out.len() == 52 && is_notice(alloc, out.as_slice(), want.as_bytes()))
-}
-
-#[test]
-fn the_notice_of_the_byte_vectors(rt: HostRuntime) -> Result<(), Fail> {
-    assert!(rt; notice_is_written(rt.alloc())?);
-    Ok(())
+    Ok(
+        out.len() == 52
+            && out.as_slice() == want.as_bytes()
+            && is_read(alloc, out.as_slice(), actor, watcher),
+    )
 }
 
 fn short_notices_are_read(alloc: Global) -> bool {
-    !is_bad(alloc, &[0, 0, 0, 0]) && !is_bad(alloc, &[1, 0, b'a', 0, 0])
+    is_read(alloc, &[0, 0, 0, 0], "", "") && is_read(alloc, &[1, 0, b'a', 0, 0], "a", "")
 }
 
 fn too_short_ones_are_bad(alloc: Global) -> bool {
@@ -564,8 +565,9 @@ fn other_bytes_are_bad(alloc: Global) -> bool {
 }
 
 #[test]
-fn what_is_no_notice(rt: HostRuntime) -> Result<(), Fail> {
+fn notices_have_their_bytes(rt: HostRuntime) -> Result<(), Fail> {
     let alloc = rt.alloc();
+    assert!(rt; notice_is_written(alloc)?);
     assert!(rt; short_notices_are_read(alloc));
     assert!(rt; too_short_ones_are_bad(alloc));
     assert!(rt; other_bytes_are_bad(alloc));

@@ -139,7 +139,7 @@ impl Watcher {
     /// Adds the remote watch of the actor with this path by this watcher, told by this origin.
     ///
     /// NotThere exactly where the actor is not there; else There exactly where this remote watch stands; else Full where 262,144 stand.
-    /// Nothing changes then, nor without memory. Takes time by the lengths of the texts alone.
+    /// Nothing changes then, nor without memory. Takes time by the lengths of the texts alone, amortized.
     pub fn remote_watch(
         &mut self,
         alloc: Global,
@@ -154,7 +154,9 @@ impl Watcher {
         self.actors.remote_watch(alloc, path, watcher, origin)
     }
 
-    /// Removes this one remote watch, and answers whether it stood. Takes no memory.
+    /// Removes this one remote watch, and answers whether it stood. Takes no memory, and time by the lengths of the texts alone, amortized: once
+    /// more than half of an actor's places are of removed watches, a pass over that actor's places gives these up. Where it did not stand,
+    /// there is no pass.
     pub fn remote_unwatch(&mut self, path: &Text, watcher: &Text, origin: &UniqueAddress) -> bool
         ensures answer { result ≡ remote_unwatching path.now (remote_of watcher.now origin.now) self.old.actors }
         ensures kept { self.new ≡ kept_remote_unwatched path.now (remote_of watcher.now origin.now) self.old }
