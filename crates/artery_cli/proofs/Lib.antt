@@ -6,3 +6,4 @@ pub mod Stopping
 pub mod ShownSoFar
 pub mod Faults
 pub mod Results
+pub mod FrameLines

@@ -7,3 +7,4 @@ pub mod Checking
 pub mod Reading
 pub mod Playing
 pub mod Showing
+pub mod Lines

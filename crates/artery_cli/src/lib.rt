@@ -11,6 +11,7 @@ mod command;
 mod fault_text;
 mod input;
 mod judging;
+mod laws;
 mod making;
 mod playing;
 mod refusal;
@@ -23,6 +24,7 @@ mod top;
 
 pub use command::{Command, Task};
 pub use input::MOST_BYTES;
+pub use laws::frames_are_read_again;
 pub use refusal::Refusal;
 pub use top::run;
 

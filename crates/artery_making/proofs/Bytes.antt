@@ -4,7 +4,7 @@ use Rattle.std.specs.Prelude.{option_map}
 use Rattle.byteorder.specs.Endian.{little_bytes}
 use Rattle.artery_header.specs.declared.fault.EncodeFault.{EncodeFault}
 use Rattle.artery_frame.specs.Stream.{framed}
-use Rattle.artery_header.specs.Envelope.{EnvelopeOf as Contents, canonical}
+use Rattle.artery_header.specs.Envelope.{EnvelopeOf, canonical}
 use Rattle.artery_lines.specs.Lines.{line_fault}
 use Rattle.artery_making.specs.Made.{Adds, canonical_unless, encode_memory}
 
@@ -16,13 +16,13 @@ framed_here frame old one new len l a b =
     ∙ append_assoc old (little_bytes 4 (length frame)) frame
 
 -- the frame of an envelope that is not refused
-pub added_frame : (c : Contents) (o : Option EncodeFault) (old new : List ℕ) → o ≡ None → new ≡ old ++ framed (canonical c)
+pub added_frame : (c : EnvelopeOf) (o : Option EncodeFault) (old new : List ℕ) → o ≡ None → new ≡ old ++ framed (canonical c)
     → option_map (λ bytes. old ++ bytes) (option_map framed (canonical_unless c o)) ≡ Some new
 added_frame c None old new h e = ap Some (sym e)
 added_frame c (Some fault) old new h e = absurd cc
 
 -- what was not written for another reason than memory is refused
-pub refused_frame : (c : Contents) (o : Option EncodeFault) (fault : EncodeFault) (old new : List ℕ) → (encode_memory fault ≡ false → o ≡ Some fault)
+pub refused_frame : (c : EnvelopeOf) (o : Option EncodeFault) (fault : EncodeFault) (old new : List ℕ) → (encode_memory fault ≡ false → o ≡ Some fault)
     → Adds (Err (line_fault (encode_memory fault))) old new (option_map framed (canonical_unless c o))
 refused_frame c o fault old new h = by_memory (encode_memory fault) refl
   where

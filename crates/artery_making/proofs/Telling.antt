@@ -4,7 +4,7 @@ use Rattle.std.specs.Prelude.{slice_index}
 use Rattle.std.specs.Result.{result_ok}
 use Rattle.artery_text.specs.declared.fault.WordFault.{WordFault}
 use Rattle.artery_text.specs.Reading.{Gives, Unless, word_memory}
-use Rattle.artery_header.specs.Envelope.{NameOf as Named}
+use Rattle.artery_header.specs.Envelope.{NameOf}
 use Rattle.artery_lines.specs.declared.fault.LineFault.{LineFault}
 use Rattle.artery_lines.specs.Lines.{Tells, line_fault, ◌>>=◌}
 use Rattle.artery_making.specs.declared.told.ToldName.{ToldName}
@@ -37,7 +37,7 @@ pub tells_index : (token digits : List ℕ) (r : Result ToldName LineFault) → 
     → TellsAs told_name r (index_told digits) → TellsAs told_name r (name_told token)
 tells_index [] digits r some h e t = absurd (omega (arith, some))
 tells_index (b ∷ rest) digits r some h e t =
-    let P : Option Named → Type 0 = TellsAs told_name r in
+    let P : Option NameOf → Type 0 = TellsAs told_name r in
     subst P (ap index_told e ∙ sym (is_index b rest h)) t
 
 -- any other token tells a literal, if anything
@@ -45,5 +45,5 @@ pub tells_name : (token : List ℕ) (r : Result ToldName LineFault) → 1 ≤ le
     → TellsAs told_name r (literal_told token) → TellsAs told_name r (name_told token)
 tells_name [] r some h t = absurd (omega (arith, some))
 tells_name (b ∷ rest) r some h t =
-    let P : Option Named → Type 0 = TellsAs told_name r in
+    let P : Option NameOf → Type 0 = TellsAs told_name r in
     subst P (sym (is_literal b rest h)) t

@@ -7,7 +7,7 @@ use Rattle.artery_frame.specs.declared.stream.Stream.TheVariants.{Control, Ordin
 use Rattle.artery_frame.specs.Stream.{preamble, framed}
 use Rattle.artery_header.specs.declared.fault.EncodeFault.{EncodeFault}
 use Rattle.artery_header.specs.declared.fault.EncodeFault.TheVariants as encode_faults
-use Rattle.artery_header.specs.Envelope.{NameOf as Named, Literal as Text, Index as Number, EnvelopeOf as Contents, is_text, canonical, refusal}
+use Rattle.artery_header.specs.Envelope.{NameOf, Literal, Index, EnvelopeOf, is_text, canonical, refusal}
 use Rattle.artery_lines.specs.Lines.{lines_of, tokens_of, at_end, ◌>>=◌}
 use Rattle.artery_lines.specs.declared.fault.LineFault.{LineFault}
 use Rattle.artery_lines.specs.declared.fault.LineFault.TheVariants as line_faults
@@ -23,19 +23,19 @@ abbrev pub at_most : ℕ → ℕ → Option ℕ
 at_most most n = if nat_lt most n then None else Some n
 
 -- a text, where it is ASCII
-abbrev pub ascii_name : List ℕ → Option Named
-ascii_name text = if is_text text then Some (Text text) else None
+abbrev pub ascii_name : List ℕ → Option NameOf
+ascii_name text = if is_text text then Some (Literal text) else None
 
 -- a place in a table that digits tell: at most 65,535
-abbrev pub index_told : List ℕ → Option Named
-index_told digits = number_of digits >>= at_most 65535 >>= λ i. Some (Number i)
+abbrev pub index_told : List ℕ → Option NameOf
+index_told digits = number_of digits >>= at_most 65535 >>= λ i. Some (Index i)
 
 -- a literal that a token tells: a word of ASCII bytes
-abbrev pub literal_told : List ℕ → Option Named
+abbrev pub literal_told : List ℕ → Option NameOf
 literal_told text = result_ok (word_of text) >>= ascii_name
 
 -- a name that a token tells: `@` and its place in a table, or a literal
-abbrev pub name_told : List ℕ → Option Named
+abbrev pub name_told : List ℕ → Option NameOf
 name_told [] = None
 name_told (b ∷ rest) = if b == 64 then index_told rest else literal_told (b ∷ rest)
 
@@ -53,7 +53,7 @@ abbrev pub payload_told : List ℕ → Option (List ℕ)
 payload_told text = result_ok (hex_of text)
 
 -- `UID REFSVERSION MANIFESTSVERSION SERIALIZER SENDER RECIPIENT MANIFEST HEX`, and no more
-unfoldable pub fields_told : List (List ℕ) → Option Contents
+unfoldable pub fields_told : List (List ℕ) → Option EnvelopeOf
 fields_told tokens = do
   uid ← next_told number_of tokens
   refs ← next_told version_told uid.1
@@ -66,16 +66,16 @@ fields_told tokens = do
   at_end payload.1 (Some (record { uid = uid.0; refs_version = refs.0; manifests_version = manifests.0; serializer = serializer.0; sender = sender.0; recipient = recipient.0; manifest = manifest.0; payload = payload.0 }))
 
 -- the envelope that tokens tell: `frame` and its fields
-abbrev pub contents_in : List (List ℕ) → Option Contents
+abbrev pub contents_in : List (List ℕ) → Option EnvelopeOf
 contents_in [] = None
 contents_in (word ∷ fields) = if bytes_eq word (codes "frame") then fields_told fields else None
 
 -- the envelope that a line tells
-abbrev pub contents_told : List ℕ → Option Contents
+abbrev pub contents_told : List ℕ → Option EnvelopeOf
 contents_told line = contents_in (tokens_of line)
 
 -- the bytes of an envelope, unless a literal or the whole is too long
-abbrev pub canonical_unless : Contents → Option EncodeFault → Option (List ℕ)
+abbrev pub canonical_unless : EnvelopeOf → Option EncodeFault → Option (List ℕ)
 canonical_unless c None = Some (canonical c)
 canonical_unless c (Some fault) = None
 
@@ -124,12 +124,12 @@ make_memory NoMemory = true
 -- ---- what the code reads and adds
 
 -- a name that was read, as one of an envelope
-abbrev pub told_name : ToldName → Named
-told_name (told_names.Literal text) = Text text
-told_name (told_names.Index i) = Number i
+abbrev pub told_name : ToldName → NameOf
+told_name (told_names.Literal text) = Literal text
+told_name (told_names.Index i) = Index i
 
 -- a line's frame that was read, as the contents of an envelope
-abbrev pub told_contents : ToldFrame → Contents
+abbrev pub told_contents : ToldFrame → EnvelopeOf
 told_contents f = record {
   uid = f.uid;
   refs_version = f.refs_version;

@@ -7,6 +7,7 @@ use Rattle.std.proofs.lemmas.Bool.Decides.{nat_tests}
 use Rattle.std.proofs.lemmas.List.{length_push}
 use Rattle.artery_base.specs.declared.address.UniqueAddress.{UniqueAddress}
 use Rattle.artery_base.specs.declared.message.SysMsg.{SysMsg}
+use Rattle.artery_base.specs.Words.{IsPrefix}
 use Rattle.artery_delivery.specs.Inbound.{same_origin, expected_of, next_of, is_expected, taking, with_taken}
 use Rattle.artery_delivery.specs.Limits.{never_expected}
 use Rattle.artery_delivery.specs.declared.inbound.Take.{Take}
@@ -16,7 +17,7 @@ use Rattle.artery_world.specs.declared.line.Line.{Line}
 use Rattle.artery_world.specs.declared.line.Line.TheVariants.{Took}
 use Rattle.artery_world.specs.declared.parcel.Parcel.{Parcel}
 use Rattle.artery_world.specs.declared.parcel.Parcel.TheVariants.{Numbered, Ack}
-use Rattle.artery_world.specs.Laws.{sent_by, taken_by, IsPrefix}
+use Rattle.artery_world.specs.Laws.{sent_by, taken_by}
 use Rattle.artery_world.specs.World.{NodeState, LinkState, World, node_of}
 use Rattle.artery_world.specs.Step.{in_node, in_peer, with_outbound, on_net, tells, takes, arrives_from, arrives_between, arrives, arrive_all, delivers_link, delivers, delivers_first, pairs_up, passes, passes_times}
 use Rattle.artery_world.proofs.Lists.{by_test, on_cond, Each, each_weaker, each_set, each_get}

@@ -6,10 +6,11 @@ use Rattle.std.proofs.lemmas.List.{take-append-le, take_all, length_push}
 use Rattle.std.proofs.lemmas.Bool.Decides.{nat_tests}
 use Rattle.artery_base.specs.declared.address.UniqueAddress.{UniqueAddress}
 use Rattle.artery_base.specs.declared.message.SysMsg.{SysMsg}
+use Rattle.artery_base.specs.Words.{IsPrefix}
 use Rattle.artery_delivery.specs.Inbound.{same_origin}
 use Rattle.artery_world.specs.declared.line.Line.{Line}
 use Rattle.artery_world.specs.declared.line.Line.TheVariants.{Started, Learnt, Sent, Took}
-use Rattle.artery_world.specs.Laws.{Numbered, sent_of, took_of, sent_by, taken_by, IsPrefix, IsLawful}
+use Rattle.artery_world.specs.Laws.{Numbered, sent_of, took_of, sent_by, taken_by, IsLawful}
 use Rattle.artery_world.proofs.Lists.{by_test, Each}
 
 pub same_is : (a b : UniqueAddress) → same_origin a b ≡ true → a ≡ b

@@ -8,6 +8,7 @@ use Rattle.std.proofs.lemmas.List.{map-append}
 use Rattle.artery_base.specs.declared.address.Address.{Address}
 use Rattle.artery_base.specs.declared.address.UniqueAddress.{UniqueAddress}
 use Rattle.artery_base.specs.declared.message.SysMsg.{SysMsg}
+use Rattle.artery_base.specs.Words.{IsPrefix}
 use Rattle.artery_early.specs.declared.request.Request.{Request}
 use Rattle.artery_early.specs.declared.request.Request.TheVariants.{Pair, Send}
 use Rattle.artery_delivery.specs.Inbound.{same_origin}
@@ -24,7 +25,7 @@ use Rattle.artery_world.specs.declared.line.Line.{Line}
 use Rattle.artery_world.specs.declared.line.Line.TheVariants.{Started, Sent}
 use Rattle.artery_early.specs.declared.script.ScriptLine.{ScriptLine}
 use Rattle.artery_world.specs.Limits.{most_nodes}
-use Rattle.artery_world.specs.Laws.{sent_by, taken_by, IsPrefix, IsLawful}
+use Rattle.artery_world.specs.Laws.{sent_by, taken_by, IsLawful}
 use Rattle.artery_world.specs.Lookup.{change_first}
 use Rattle.artery_world.specs.World.{PeerState, NodeState, Net, World, nothing, new_node, has_uid, lives_at, is_at, node_of, same_address}
 use Rattle.artery_world.specs.Step.{in_node, in_peer, with_outbound, on_net, tells, knows, with_peer, asks, unique_at, sends_to, sends_over, sends, starts, starts_unless, named, requested, asked, step}

@@ -1,7 +1,8 @@
 -- The prefix law of a journal, which speaks of lines alone.
-use Rattle.std.specs.Prelude.{◌≡◌, ℕ, ◌&&◌, if◌then◌else◌, List, [], ◌∷◌, ◌++◌, take}
+use Rattle.std.specs.Prelude.{ℕ, ◌&&◌, if◌then◌else◌, List, [], ◌∷◌, ◌++◌, take}
 use Rattle.artery_base.specs.declared.address.UniqueAddress.{UniqueAddress}
 use Rattle.artery_base.specs.declared.message.SysMsg.{SysMsg}
+use Rattle.artery_base.specs.Words.{IsPrefix}
 use Rattle.artery_delivery.specs.Inbound.{same_origin}
 use Rattle.artery_world.specs.declared.line.Line.{Line}
 use Rattle.artery_world.specs.declared.line.Line.TheVariants.{Started, Learnt, Sent, Took}
@@ -33,10 +34,6 @@ sent_by a b (line ∷ lines) = sent_of a b line ++ sent_by a b lines
 abbrev pub taken_by : UniqueAddress → UniqueAddress → List Line → List Numbered
 taken_by b a [] = []
 taken_by b a (line ∷ lines) = took_of b a line ++ taken_by b a lines
-
--- a list is a prefix of another that is the same list with something, or nothing, behind it
-abbrev pub IsPrefix : {X : Type 0} → List X → List X → Type 0
-IsPrefix {X} xs ys = (rest : List X) × (xs ++ rest ≡ ys)
 
 -- the prefix law: at each line, what one incarnation took from another is a prefix of what was sent to it before
 abbrev pub IsLawful : List Line → Type 0
