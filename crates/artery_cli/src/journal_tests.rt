@@ -1,15 +1,12 @@
-use crate::run;
-use crate::tests::{THREE_JOURNAL, copies, numbers};
-use artery_base::{Bytes, Text};
-use artery_io::{MemSink, MemSource};
+use crate::tests::{THREE_JOURNAL, tells};
+use artery_base::Bytes;
 use artery_journal::{Journal, print_line, print_stamped};
 use artery_journal_reading::read_journal;
-use artery_text::text_of;
 use std::alloc::Global;
 use std::test::*;
 
 /// A lawful journal with a line of each kind.
-const KINDS: &[u8] = b"\
+pub const KINDS: &[u8] = b"\
 akka://A@h1:1#1 started
 akka://B@h2:65535#18446744073709551615 started
 akka://A@h1:1#1 learnt akka://B@h2:65535#18446744073709551615
@@ -100,49 +97,9 @@ a://A@h:1#1 spawned /\n\
 a://A@h:1#1 adopted a://B@h:1#2 refs\n\
 1 a://A@h:1#1 started";
 
-/// The words of the command.
-fn check_journal(alloc: Global) -> Option<Vec<Text>> {
-    let mut words = Vec::new(alloc);
-    let check = text_of(alloc, b"check").ok()?;
-    let journal = text_of(alloc, b"journal").ok()?;
-    words.push(check).ok()?;
-    words.push(journal).ok()?;
-    Some(words)
-}
-
-/// What `check journal` writes of a text, if its status is this one; the given reads and writes
-/// fail.
-fn judged(alloc: Global, text: &[u8], reads: &[u64], writes: &[u64], status: u8) -> Option<Bytes> {
-    let words = check_journal(alloc)?;
-    let bytes = Bytes::from_slice(alloc, text).ok()?;
-    let reads = numbers(alloc, reads).ok()?;
-    let writes = numbers(alloc, writes).ok()?;
-    let mut source = MemSource::new(bytes, reads);
-    let mut sink = MemSink::new(alloc, writes);
-    if run(alloc, words.as_slice(), &mut source, &mut sink) != status {
-        return None;
-    }
-    sink.bytes().clone().ok()
-}
-
-/// Whether `check journal` of which the given reads and writes fail leaves this of a text.
-fn judging_leaves(
-    alloc: Global,
-    text: &[u8],
-    reads: &[u64],
-    writes: &[u64],
-    written: &[u8],
-    status: u8,
-) -> bool {
-    match judged(alloc, text, reads, writes, status) {
-        Some(left) => left.as_slice() == written,
-        None => false,
-    }
-}
-
 /// Whether `check journal` answers a text so.
 fn judges(alloc: Global, text: &[u8], written: &[u8], status: u8) -> bool {
-    judging_leaves(alloc, text, &[], &[], written, status)
+    tells(alloc, b"check journal", text, written, status)
 }
 
 /// Whether a journal is lawful.
@@ -207,9 +164,49 @@ fn is_printed_again(alloc: Global, text: &[u8]) -> bool {
     print_journal(&journal, &mut out) && out.as_slice() == text
 }
 
+fn judge_two_journals(alloc: Global) -> bool {
+    let journal = b"akka://A@h1:25520#1 sent akka://B@h2:25520#2 1 5 x 01
+akka://B@h2:25520#2 took akka://A@h1:25520#1 1 5 x 02
+";
+    breaks(alloc, journal, b"fault journal 2 prefix\n")
+}
+
+fn judge_two_journals_3(alloc: Global) -> bool {
+    let journal = b"akka://A@h1:25520#1 started
+akka://B@h2:25520#2 started
+akka://A@h1:25520#1 learnt akka://B@h2:25520#2
+akka://B@h2:25520#2 learnt akka://A@h1:25520#1
+akka://A@h1:25520#1 sent akka://B@h2:25520#2 1 5 x 0102
+akka://B@h2:25520#2 took akka://A@h1:25520#1 1 5 x 0102
+";
+    is_lawful(alloc, journal)
+}
+
+fn given_up_after_six_hours_2(alloc: Global) -> bool {
+    let journal = b"journal 2
+0 akka://A@h1:25520#1 started
+0 akka://B@h2:25520#2 started
+0 akka://A@h1:25520#1 learnt akka://B@h2:25520#2
+0 akka://B@h2:25520#2 learnt akka://A@h1:25520#1
+0 akka://A@h1:25520#1 sent akka://B@h2:25520#2 1 5 x 01
+21600000 akka://A@h1:25520#1 closed akka://B@h2:25520#2 undelivered
+";
+    is_lawful(alloc, journal)
+}
+
+fn a_moment_goes_back(alloc: Global) -> bool {
+    let journal = b"journal 2
+5 akka://A@h1:25520#1 started
+4 akka://A@h1:25520#1 learnt akka://B@h2:25520#2
+";
+    breaks(alloc, journal, b"fault journal 3 moment\n")
+}
+
 #[test]
-fn journals_are_judged(rt: HostRuntime) -> Result<(), Fail> {
+fn journals_are_lawful_and_printed_again(rt: HostRuntime) -> Result<(), Fail> {
     let alloc = rt.alloc();
+    assert!(rt; judge_two_journals_3(alloc));
+    assert!(rt; given_up_after_six_hours_2(alloc));
     assert!(rt; is_lawful(alloc, b""));
     assert!(rt; is_lawful(alloc, b"journal 2"));
     assert!(rt; is_lawful(alloc, b"a://A@h:1#1 started"));
@@ -217,12 +214,6 @@ fn journals_are_judged(rt: HostRuntime) -> Result<(), Fail> {
     assert!(rt; is_lawful(alloc, KINDS));
     assert!(rt; is_lawful(alloc, RULES));
     assert!(rt; is_lawful(alloc, MOMENTS));
-    Ok(())
-}
-
-#[test]
-fn journals_are_printed_again(rt: HostRuntime) -> Result<(), Fail> {
-    let alloc = rt.alloc();
     assert!(rt; is_printed_again(alloc, KINDS));
     assert!(rt; is_printed_again(alloc, RULES));
     assert!(rt; is_printed_again(alloc, MOMENTS));
@@ -230,15 +221,10 @@ fn journals_are_printed_again(rt: HostRuntime) -> Result<(), Fail> {
 }
 
 #[test]
-fn the_first_law_that_is_broken_is_told(rt: HostRuntime) -> Result<(), Fail> {
+fn the_first_fault_of_a_journal_is_told(rt: HostRuntime) -> Result<(), Fail> {
     let alloc = rt.alloc();
-    assert!(rt;
-        breaks(
-            alloc,
-            b"a://A@h:1#1 sent a://B@h:2#2 1 5 x 01\na://B@h:2#2 took a://A@h:1#1 1 5 x 02\n",
-            b"fault journal 2 prefix\n"
-        )
-    );
+    assert!(rt; judge_two_journals(alloc));
+    assert!(rt; a_moment_goes_back(alloc));
     assert!(rt;
         breaks(
             alloc,
@@ -277,23 +263,10 @@ fn the_first_law_that_is_broken_is_told(rt: HostRuntime) -> Result<(), Fail> {
     assert!(rt;
         breaks(
             alloc,
-            b"journal 2\n5 a://A@h:1#1 started\n4 a://A@h:1#1 learnt a://B@h:2#2\n",
-            b"fault journal 3 moment\n"
-        )
-    );
-    assert!(rt;
-        breaks(
-            alloc,
             b"journal 2\n5 a://A@h:1#1 stopped\n4 a://A@h:1#1 took a://B@h:2#2 1 5 x 02\n",
             b"fault journal 3 prefix\n"
         )
     );
-    Ok(())
-}
-
-#[test]
-fn the_first_line_that_is_none_is_told(rt: HostRuntime) -> Result<(), Fail> {
-    let alloc = rt.alloc();
     assert!(rt; each_is_bad(alloc, NO_LINES));
     assert!(rt;
         is_bad(
@@ -325,24 +298,5 @@ fn the_first_line_that_is_none_is_told(rt: HostRuntime) -> Result<(), Fail> {
         )
     );
     assert!(rt; is_bad(alloc, b"journal 2\n# a remark\n", b"fault line 2\n"));
-    Ok(())
-}
-
-/// Whether `check journal` answers so many empty lines so.
-fn judges_empty_lines(alloc: Global, count: u64, written: &[u8], status: u8) -> bool {
-    match copies(alloc, b"\n", count) {
-        Ok(text) => judges(alloc, text.as_slice(), written, status),
-        Err(_) => false,
-    }
-}
-
-#[test]
-fn what_hinders_judging_is_told(rt: HostRuntime) -> Result<(), Fail> {
-    let alloc = rt.alloc();
-    assert!(rt; judges_empty_lines(alloc, 1_000_001, b"fault limit lines\n", 6));
-    assert!(rt; judges_empty_lines(alloc, 1_000_000, b"fault line 1\n", 2));
-    assert!(rt; judging_leaves(alloc, KINDS, &[1], &[], b"fault read\n", 3));
-    assert!(rt; judging_leaves(alloc, KINDS, &[2], &[], b"fault read\n", 3));
-    assert!(rt; judging_leaves(alloc, KINDS, &[], &[1], b"", 4));
     Ok(())
 }
