@@ -24,5 +24,5 @@ pub use laws::answers_tell;
 pub use merge::Merge;
 pub use part::{Part, Parts};
 
-#[cfg(test)]
-mod tests;
+
+
