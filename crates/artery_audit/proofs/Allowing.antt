@@ -239,12 +239,13 @@ rests_append says test (x ∷ xs) ys = ap (λ (r : List _). rest_if test (says x
     joined (z ∷ zs) b c = ap (λ (r : List _). z ∷ r) (joined zs b c)
 
 prefix_rests : {K R : Type 0} (says : Line → Option (K × R)) (test : K → Bool) (u : UniqueAddress) → ((l : Line) → same u (of l) ≡ false → rest_if test (says l) ≡ []) → (one other : List Line) → IsPrefix (lines_by u one) (lines_by u other) → IsPrefix (rests says test (plain one)) (rests says test (plain other))
-prefix_rests says test u own one other (more, is) =
-    (rests says test (plain more),
-        ap (λ (r : List _). r ++ rests says test (plain more)) (rests_own says test u own one)
-        ∙ sym (rests_append says test (lines_by u one) more)
-        ∙ ap (λ (ls : List Line). rests says test (plain ls)) is
-        ∙ sym (rests_own says test u own other))
+prefix_rests says test u own one other (more, is) = (
+  rests says test (plain more),
+  ap (λ (r : List _). r ++ rests says test (plain more)) (rests_own says test u own one)
+      ∙ sym (rests_append says test (lines_by u one) more)
+      ∙ ap (λ (ls : List Line). rests says test (plain ls)) is
+      ∙ sym (rests_own says test u own other),
+)
 
 pub more_for : (one other : List Line) (x : Line) → lines_by (of x) one ≡ lines_by (of x) other → ((u : UniqueAddress) → IsPrefix (lines_by u one) (lines_by u other)) → MoreFor x one other
 more_for one other x own h = record {

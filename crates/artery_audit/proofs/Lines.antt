@@ -61,8 +61,8 @@ each_more P lines line each last before after l is = by [] lines before each las
     by front (r ∷ rs) (b ∷ bs) each last is =
         let e : r ≡ b = head_is is in
         let deeper = by (front ++ r ∷ []) rs bs
-            (λ b' a x at. subst (λ f. P f x) (sym (one_more front b' r)) (each (r ∷ b') a x (ap (λ (q : List Line). r ∷ q) at)))
-            (subst (λ f. P f line) (sym (one_more front rs r)) last) (tail_is is) in
+        (λ b' a x at. subst (λ f. P f x) (sym (one_more front b' r)) (each (r ∷ b') a x (ap (λ (q : List Line). r ∷ q) at)))
+        (subst (λ f. P f line) (sym (one_more front rs r)) last) (tail_is is) in
         subst (λ f. P f l) (one_more front bs r ∙ ap (λ z. front ++ z ∷ bs) e) deeper
 
 -- the lines of an incarnation and one more

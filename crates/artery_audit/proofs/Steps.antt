@@ -29,7 +29,7 @@ AtPlace parts p u = (i : ℕ) → slice_get parts i ≡ Some p → ((j : ℕ) (r
 part_at : (parts : List Part) (k : ℕ) (p : Part) (u : UniqueAddress) → slice_get parts k ≡ Some p → same u p.of ≡ true → ((j : ℕ) (q : Part) → slice_get parts j ≡ Some q → same u q.of ≡ true → j ≡ k) → part_of u parts ≡ p.lines
 part_at [] k p u at own one = cc
 part_at (q ∷ qs) k p u at own one = by (same u q.of) refl
-      (λ i there. part_at qs i p u there own)
+    (λ i there. part_at qs i p u there own)
   where
     here : (k : ℕ) → slice_get (q ∷ qs) k ≡ Some p → 0 ≡ k → q.lines ≡ p.lines
     here zero at e = ap (λ (r : Part). r.lines) (some_is at)

@@ -24,17 +24,20 @@ nothing_left cut (p ∷ ps) all = by (slice_get p.lines (cut p.of)) refl (nothin
     by (Some line) is rest = absurd (omega (arith, all 0 p refl, before_end p.lines (cut p.of) line is))
 
 whole_reached : (parts : List Part) (lines : List Line) → IsMerge parts lines → IsLawful lines → IsReached parts (λ u. length (part_of u parts))
-whole_reached parts lines merge lawful = (lines, record {
-  within = λ u. omega arith;
-  merge = λ u. merge u ∙ sym (take_all (length (part_of u parts)) (part_of u parts) (omega arith));
-  lawful = lawful;
-})
+whole_reached parts lines merge lawful = (
+  lines,
+  record {
+    within = λ u. omega arith;
+    merge = λ u. merge u ∙ sym (take_all (length (part_of u parts)) (part_of u parts) (omega arith));
+    lawful = lawful;
+  },
+)
 
 pub none_lawful : (parts : List Part) (of : UniqueAddress) (number : ℕ) (law : Law) (lines : List Line) → AreParts parts → IsStuck parts of number law → IsMerge parts lines → IsLawful lines → ⊥
 none_lawful parts of number law lines ok stuck merge lawful =
     let all : (k : ℕ) (p : Part) → slice_get parts k ≡ Some p → length p.lines ≤ stuck.cut p.of = λ k p at.
-        let whole = stuck.greatest.greatest (λ u. length (part_of u parts)) (whole_reached parts lines merge lawful) p.of in
-        subst (λ (l : List Line). length l ≤ stuck.cut p.of) (own_part parts k p p.of ok at (same_self p.of)) whole in
+    let whole = stuck.greatest.greatest (λ u. length (part_of u parts)) (whole_reached parts lines merge lawful) p.of in
+    subst (λ (l : List Line). length l ≤ stuck.cut p.of) (own_part parts k p p.of ok at (same_self p.of)) whole in
     never (sym (nothing_left stuck.cut parts all) ∙ stuck.first)
   where
     never : {X : Type 0} {x : X} → None ≡ Some x → ⊥

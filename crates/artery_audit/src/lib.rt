@@ -23,6 +23,3 @@ pub use auditing::audit;
 pub use laws::answers_tell;
 pub use merge::Merge;
 pub use part::{Part, Parts};
-
-
-
