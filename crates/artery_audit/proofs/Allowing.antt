@@ -1,18 +1,16 @@
 -- What a law says of a line rests on the lines of its own incarnation and on what others sent or told that one.
-use Rattle.std.proofs.Common.{◌≡◌, ℕ, Bool, true, false, not, ◌&&◌, ◌||◌, ◌==◌, List, [], ◌∷◌, ◌++◌, refl, ap, sym, subst, ◌∙◌, true≢false}
+use Rattle.std.proofs.Common.{◌≡◌, ℕ, Bool, true, false, not, ◌&&◌, ◌||◌, List, [], ◌∷◌, ◌++◌, refl, ap, sym, subst, ◌∙◌, true≢false}
 use Rattle.std.proofs.lemmas.Bool.{and_right}
-use Rattle.std.proofs.lemmas.List.{append-nil, map-append, flat_map_more}
-use Rattle.std.proofs.lemmas.List.Folds.{list_any-append}
-use Rattle.std.specs.Prelude.{Option, Some, None, map, flat_map, if◌then◌else◌}
+use Rattle.std.proofs.lemmas.List.{append-nil}
+use Rattle.std.specs.Prelude.{Option, Some, None, if◌then◌else◌}
 use Rattle.std.specs.List.{list_any}
 use Rattle.artery_base.specs.Words.{IsPrefix}
 use Rattle.artery_base.specs.declared.message.Tell.{Tell}
 use Rattle.artery_base.specs.declared.address.UniqueAddress.{UniqueAddress}
 use Rattle.artery_journal.specs.declared.line.Line.{Line}
-use Rattle.artery_journal.specs.declared.line.Line.TheVariants.{Started, Stopped, Learnt, Closed, Sent, Took, Again, Gap, Told, Got, Dropped, Stray, Barred, Notice, Watched, Unwatched, Terminated, Refused, Spawned, Ended, Advertised, Adopted, Skipped, Idle}
-use Rattle.artery_judge.specs.declared.verdict.Law.{Law}
-use Rattle.artery_judge.specs.Lines.{Entry, Way, Rest, same, is_way, of, says_sent, says_took, says_told, says_got, says_closed, deals, says_watched, says_unwatched, is_started, is_stopped, rest_if, rests, is_said}
-use Rattle.artery_judge.specs.Laws.{same_rest, same_tell, is_prefix, is_subsequence, sent_to, taken_from, is_dial, is_nonce, told_to, got_from, breaks_prefix, has_closed, breaks_closed, is_watch, has_watched, has_ended, watches_again, ends_nothing, breaks_watch, breaks_ordinary, has_line, has_stopped, breaks_stopped, first_law, broken_law, plain}
+use Rattle.artery_journal.specs.declared.line.Line.TheVariants.{Learnt, Closed, Sent, Took, Again, Gap, Told, Got, Watched, Unwatched, Terminated}
+use Rattle.artery_judge.specs.Lines.{Entry, Rest, same, is_way, of, says_sent, says_took, says_told, says_got, says_closed, deals, says_watched, says_unwatched, is_started, is_stopped, rest_if, rests, is_said}
+use Rattle.artery_judge.specs.Laws.{same_rest, same_tell, is_prefix, is_subsequence, sent_to, taken_from, is_dial, is_nonce, told_to, got_from, breaks_prefix, has_closed, breaks_closed, is_watch, has_watched, has_ended, ends_nothing, breaks_watch, breaks_ordinary, breaks_stopped, first_law, plain}
 use Rattle.artery_audit.specs.Parts.{lines_by}
 use Rattle.artery_audit.specs.Merges.{law_after}
 use Rattle.artery_audit.specs.Merging.{receiver_of}

@@ -1,18 +1,18 @@
 -- What is found where no part has a next line that breaks no law.
-use Rattle.std.proofs.Common.{◌≡◌, ℕ, zero, suc, ◌+◌, ◌<◌, ◌≤◌, Bool, true, false, List, [], ◌∷◌, ◌++◌, length, take, drop, refl, ap, sym, subst, ◌∙◌, true≢false, arith}
-use Rattle.std.proofs.lemmas.List.{length-append, append-nil, take_all}
-use Rattle.std.specs.Prelude.{Option, Some, None, is_some, slice_get, if◌then◌else◌}
+use Rattle.std.proofs.Common.{◌≡◌, ℕ, zero, suc, ◌+◌, ◌≤◌, Bool, true, false, List, [], ◌∷◌, ◌++◌, length, drop, refl, ap, sym, ◌∙◌, arith}
+use Rattle.std.proofs.lemmas.List.{length-append, append-nil}
+use Rattle.std.specs.Prelude.{Option, Some, None, slice_get, if◌then◌else◌}
 use Rattle.artery_base.specs.Words.{IsPrefix}
 use Rattle.artery_base.specs.declared.address.UniqueAddress.{UniqueAddress}
 use Rattle.artery_journal.specs.declared.line.Line.{Line}
 use Rattle.artery_judge.specs.declared.verdict.Law.{Law}
 use Rattle.artery_judge.specs.Lines.{same, of}
 use Rattle.artery_audit.specs.declared.part.Part.{Part}
-use Rattle.artery_audit.specs.Parts.{AreParts, lines_by, part_of}
-use Rattle.artery_audit.specs.Merges.{law_after, IsLawful, IsMerge, IsFront, Cut, Reaches, IsReached, IsGreatest}
-use Rattle.artery_audit.specs.Answers.{fitting, first_fitting, IsInTurn, IsMergeInTurn, Left, left_at, first_left, IsStuck}
+use Rattle.artery_audit.specs.Parts.{lines_by, part_of}
+use Rattle.artery_audit.specs.Merges.{law_after, Cut, Reaches}
+use Rattle.artery_audit.specs.Answers.{first_fitting, IsMergeInTurn, Left, left_at, first_left, IsStuck}
 use Rattle.artery_audit.specs.Merging.{Under, IsUnder, cut_of}
-use Rattle.artery_audit.proofs.Lines.{same_alike, some_is, by_alike, past_end}
+use Rattle.artery_audit.proofs.Lines.{some_is, by_alike, past_end}
 use Rattle.artery_audit.proofs.Allowing.{law_same, same_for}
 use Rattle.artery_audit.proofs.Reach.{greatest, reaches_own}
 use Rattle.artery_audit.proofs.Steps.{in_turn_lawful}

@@ -1,13 +1,13 @@
 -- Parts with a part more, or with a line more.
-use Rattle.std.proofs.Common.{◌≡◌, ℕ, zero, suc, ◌+◌, ◌<◌, ◌≤◌, Bool, true, false, ◌||◌, List, [], ◌∷◌, ◌++◌, length, refl, ap, sym, subst, ◌∙◌, true≢false, arith, inl, inr}
+use Rattle.std.proofs.Common.{◌≡◌, ℕ, zero, suc, Bool, true, false, ◌||◌, List, [], ◌∷◌, ◌++◌, length, refl, ap, sym, ◌∙◌, true≢false, inl, inr}
 use Rattle.std.proofs.lemmas.Bool.{cases_eq}
-use Rattle.std.specs.Prelude.{Option, Some, None, slice_get, slice_set, is_some, ◌⊎◌}
+use Rattle.std.specs.Prelude.{Some, None, slice_get, slice_set, is_some, ◌⊎◌}
 use Rattle.std.specs.List.{list_any}
 use Rattle.artery_base.specs.declared.address.UniqueAddress.{UniqueAddress}
 use Rattle.artery_journal.specs.declared.line.Line.{Line}
 use Rattle.artery_judge.specs.Lines.{same, of}
 use Rattle.artery_audit.specs.declared.part.Part.{Part}
-use Rattle.artery_audit.specs.Parts.{AreApart, AreParts, last_is}
+use Rattle.artery_audit.specs.Parts.{AreParts, last_is}
 use Rattle.artery_audit.proofs.Lines.{opened, closed, same_turned, some_is, set_there, set_elsewhere}
 
 -- an element of a list and one more

@@ -1,9 +1,8 @@
 -- Lists of lines: fronts, last lines, and the lines of one incarnation.
-use Rattle.std.proofs.Common.{◌≡◌, ℕ, zero, suc, ◌+◌, ◌<◌, ◌≤◌, Bool, true, false, List, [], ◌∷◌, ◌++◌, length, take, drop, refl, ap, sym, subst, ◌∙◌, append_assoc, true≢false, arith}
-use Rattle.std.proofs.lemmas.List.{append-nil, append_cancel_left, length-append, take_at, length-take-le}
+use Rattle.std.proofs.Common.{◌≡◌, ℕ, zero, suc, ◌<◌, ◌≤◌, true, false, List, [], ◌∷◌, ◌++◌, length, take, drop, refl, ap, sym, subst, ◌∙◌, arith}
+use Rattle.std.proofs.lemmas.List.{append-nil}
 use Rattle.std.proofs.lemmas.List.Elements.{filter-append}
-use Rattle.std.specs.Prelude.{Option, Some, None, is_some, slice_get, slice_set, filter, map, if◌then◌else◌}
-use Rattle.artery_base.specs.Words.{IsPrefix}
+use Rattle.std.specs.Prelude.{Some, None, slice_get, slice_set, filter}
 use Rattle.artery_base.specs.declared.address.UniqueAddress.{UniqueAddress}
 use Rattle.artery_base.specs.contracts.address.UniqueAddressEq.TheImpl.Laws.{laws-law}
 use Rattle.artery_journal.specs.declared.line.Line.{Line}

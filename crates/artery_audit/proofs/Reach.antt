@@ -1,18 +1,18 @@
 -- Where no part has a next line that breaks no law, no lawful merge reaches further.
-use Rattle.std.proofs.Common.{◌≡◌, ℕ, zero, suc, ◌+◌, ◌<◌, ◌≤◌, Bool, true, false, List, [], ◌∷◌, ◌++◌, length, take, drop, refl, ap, sym, subst, ◌∙◌, append_assoc, true≢false, arith}
-use Rattle.std.proofs.lemmas.List.{append-nil, append_cancel_left, length-append, take_at, length-take-le, take-append-drop, take_all}
-use Rattle.std.specs.Prelude.{Option, Some, None, is_some, slice_get, max, if◌then◌else◌}
+use Rattle.std.proofs.Common.{◌≡◌, ℕ, ◌≤◌, Bool, true, false, List, [], ◌∷◌, ◌++◌, length, take, drop, refl, ap, sym, subst, ◌∙◌, append_assoc, true≢false, arith}
+use Rattle.std.proofs.lemmas.List.{append-nil, append_cancel_left, length-append, take_at, length-take-le, take-append-drop}
+use Rattle.std.specs.Prelude.{Option, Some, None, is_some, slice_get, if◌then◌else◌}
 use Rattle.artery_base.specs.Words.{IsPrefix}
 use Rattle.artery_base.specs.declared.address.UniqueAddress.{UniqueAddress}
 use Rattle.artery_journal.specs.declared.line.Line.{Line}
 use Rattle.artery_judge.specs.declared.verdict.Law.{Law}
 use Rattle.artery_judge.specs.Lines.{same, of}
 use Rattle.artery_audit.specs.declared.part.Part.{Part}
-use Rattle.artery_audit.specs.Parts.{AreParts, lines_by, part_of}
-use Rattle.artery_audit.specs.Merges.{law_after, Each, IsLawful, IsMerge, IsFront, Cut, Reaches, IsReached, IsGreatest, greater}
+use Rattle.artery_audit.specs.Parts.{lines_by, part_of}
+use Rattle.artery_audit.specs.Merges.{law_after, IsLawful, IsFront, Cut, Reaches, IsGreatest}
 use Rattle.artery_audit.specs.Answers.{allowed, fitting, or_else, first_fitting}
 use Rattle.artery_audit.specs.Merging.{cut_of}
-use Rattle.artery_audit.proofs.Lines.{some_is, head_is, tail_is, one_more, each_more, by_more, by_other, by_alike, at_length}
+use Rattle.artery_audit.proofs.Lines.{head_is, one_more, by_more, by_other, by_alike, at_length}
 use Rattle.artery_audit.proofs.Allowing.{law_more, more_for}
 
 -- of the lines of each incarnation one list has a front

@@ -1,23 +1,23 @@
 -- Parts under way, one line further.
-use Rattle.std.proofs.Common.{◌≡◌, ℕ, zero, suc, ◌+◌, ◌-◌, ◌<◌, ◌≤◌, Bool, true, false, not, nat_lt, List, [], ◌∷◌, ◌++◌, length, take, drop, refl, ap, sym, subst, ◌∙◌, append_assoc, true≢false, arith, inl, inr}
+use Rattle.std.proofs.Common.{◌≡◌, ℕ, zero, suc, ◌+◌, ◌-◌, ◌<◌, Bool, true, false, not, List, [], ◌∷◌, ◌++◌, length, take, drop, refl, ap, sym, subst, ◌∙◌, true≢false, arith, inl, inr}
 use Rattle.std.proofs.lemmas.Bool.{cases_eq, lt-ltb}
 use Rattle.std.proofs.lemmas.List.{length-append, map-append, take_at, length-set}
-use Rattle.std.specs.Prelude.{Option, Some, None, is_some, slice_get, slice_set, option_map, if◌then◌else◌, ◌⊎◌}
+use Rattle.std.specs.Prelude.{Option, Some, None, is_some, slice_get, slice_set, if◌then◌else◌, ◌⊎◌}
 use Rattle.std.specs.List.{position, prefix_len}
 use Rattle.artery_base.specs.Words.{IsPrefix}
 use Rattle.artery_base.specs.declared.address.UniqueAddress.{UniqueAddress}
 use Rattle.artery_journal.specs.declared.line.Line.{Line}
 use Rattle.artery_judge.specs.declared.verdict.Law.{Law}
-use Rattle.artery_judge.specs.Lines.{Entry, same, of, is_said}
+use Rattle.artery_judge.specs.Lines.{same, of, is_said}
 use Rattle.artery_judge.specs.Laws.{plain}
 use Rattle.artery_judge.specs.Kept.{Stands}
 use Rattle.artery_judge.specs.Views.{kept}
 use Rattle.artery_audit.specs.declared.part.Part.{Part}
 use Rattle.artery_audit.specs.Parts.{AreParts, lines_by, part_of}
-use Rattle.artery_audit.specs.Merges.{law_after, Each, IsLawful, IsMerge, IsFront, Cut, Reaches}
-use Rattle.artery_audit.specs.Answers.{allowed, fitting, or_else, first_fitting, IsInTurn, Left, left_at, first_left}
+use Rattle.artery_audit.specs.Merges.{law_after, IsLawful, IsFront}
+use Rattle.artery_audit.specs.Answers.{allowed, fitting, or_else, first_fitting, IsInTurn}
 use Rattle.artery_audit.specs.Merging.{Under, IsUnder, Took, receiver_of, numbered, next_of, next_at, is_ready, rested, unmerged, looked_at, woken as awoken}
-use Rattle.artery_audit.proofs.Lines.{opened, same_alike, same_turned, some_is, one_more, each_more, by_more, by_other, by_alike, is_front, past_end, before_end, set_there, set_elsewhere}
+use Rattle.artery_audit.proofs.Lines.{opened, same_alike, same_turned, some_is, one_more, each_more, by_more, by_other, by_alike, is_front, before_end, set_there, set_elsewhere}
 use Rattle.artery_audit.proofs.Allowing.{law_same, same_with}
 
 -- ---- parts by name

@@ -1,5 +1,5 @@
 -- What an answer tells of all merges.
-use Rattle.std.proofs.Common.{◌≡◌, ℕ, zero, suc, ◌+◌, ◌<◌, ◌≤◌, Bool, true, false, List, [], ◌∷◌, ◌++◌, length, take, refl, ap, sym, subst, ◌∙◌, true≢false, arith}
+use Rattle.std.proofs.Common.{◌≡◌, ℕ, suc, ◌≤◌, true, List, [], ◌∷◌, length, refl, sym, subst, ◌∙◌, true≢false, arith}
 use Rattle.std.proofs.lemmas.List.{take_all}
 use Rattle.std.specs.Prelude.{Option, Some, None, slice_get}
 use Rattle.artery_base.specs.declared.address.UniqueAddress.{UniqueAddress}
@@ -8,9 +8,9 @@ use Rattle.artery_judge.specs.declared.verdict.Law.{Law}
 use Rattle.artery_audit.specs.declared.part.Part.{Part}
 use Rattle.artery_audit.specs.declared.audited.Audited.{Audited}
 use Rattle.artery_audit.specs.declared.audited.Audited.TheVariants.{Lawful, Broken}
-use Rattle.artery_audit.specs.Parts.{AreParts, lines_by, part_of}
-use Rattle.artery_audit.specs.Merges.{IsLawful, IsMerge, Cut, Reaches, IsReached, IsGreatest}
-use Rattle.artery_audit.specs.Answers.{Left, left_at, first_left, IsMergeInTurn, IsStuck, IsAnswer, is_lawful}
+use Rattle.artery_audit.specs.Parts.{AreParts, part_of}
+use Rattle.artery_audit.specs.Merges.{IsLawful, IsMerge, Cut, IsReached}
+use Rattle.artery_audit.specs.Answers.{left_at, first_left, IsStuck, IsAnswer, is_lawful}
 use Rattle.artery_audit.proofs.Lines.{same_self, before_end}
 use Rattle.artery_audit.proofs.Steps.{own_part}
 

@@ -1,7 +1,7 @@
 -- Turns of one part, and the beginning.
-use Rattle.std.proofs.Common.{◌≡◌, ℕ, zero, suc, ◌+◌, ◌<◌, ◌≤◌, Bool, true, false, List, [], ◌∷◌, ◌++◌, length, drop, replicate, refl, ap, sym, subst, ◌∙◌, true≢false, arith}
-use Rattle.std.proofs.lemmas.List.{length-replicate, append-nil}
-use Rattle.std.specs.Prelude.{Option, Some, None, is_some, slice_get, slice_set, if◌then◌else◌}
+use Rattle.std.proofs.Common.{◌≡◌, ℕ, zero, suc, ◌+◌, ◌<◌, Bool, true, false, List, [], ◌∷◌, ◌++◌, length, drop, replicate, refl, ap, sym, subst, ◌∙◌, true≢false, arith}
+use Rattle.std.proofs.lemmas.List.{length-replicate}
+use Rattle.std.specs.Prelude.{Option, Some, None, is_some, slice_get, if◌then◌else◌}
 use Rattle.artery_base.specs.declared.address.UniqueAddress.{UniqueAddress}
 use Rattle.artery_journal.specs.declared.line.Line.{Line}
 use Rattle.artery_judge.specs.declared.verdict.Law.{Law}
@@ -10,13 +10,13 @@ use Rattle.artery_judge.specs.Kept.{Stands}
 use Rattle.artery_judge.specs.Views.{kept}
 use Rattle.artery_audit.specs.declared.part.Part.{Part}
 use Rattle.artery_audit.specs.Parts.{AreParts, lines_by, part_of}
-use Rattle.artery_audit.specs.Merges.{law_after, IsFront}
-use Rattle.artery_audit.specs.Answers.{allowed, fitting, first_fitting, IsInTurn, first_left, IsStuck, IsAnswer}
-use Rattle.artery_audit.specs.Merging.{Under, IsUnder, Took, Turned, IsFound, Found, cut_of, numbered, next_at, is_ready, rested, unmerged}
+use Rattle.artery_audit.specs.Merges.{law_after}
+use Rattle.artery_audit.specs.Answers.{allowed, fitting, first_fitting, first_left, IsStuck}
+use Rattle.artery_audit.specs.Merging.{Under, IsUnder, Took, Turned, IsFound, cut_of, numbered, next_at, is_ready, rested, unmerged}
 use Rattle.artery_audit.proofs.Lines.{some_is, before_end}
 use Rattle.artery_audit.proofs.Reach.{not_one, not_other}
 use Rattle.artery_audit.proofs.Steps.{next_is, passes, is_first, rests_under, takes_under, fewer}
-use Rattle.artery_audit.proofs.Answering.{used, left_there, is_merge, is_stuck}
+use Rattle.artery_audit.proofs.Answering.{used, left_there, is_stuck}
 
 at_within : {X : Type 0} (xs : List X) (k : ℕ) → k < length xs → (x : X) × (slice_get xs k ≡ Some x)
 at_within [] k h = absurd (omega (arith, h))

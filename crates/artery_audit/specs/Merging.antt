@@ -1,7 +1,6 @@
 -- Parts under way into a merge.
-use Rattle.std.specs.Prelude.{◌≡◌, ℕ, ◌+◌, ◌-◌, ◌<◌, drop, Bool, true, false, List, [], ◌∷◌, ◌++◌, length, slice_get, slice_set, Option, None, Some, option_map}
+use Rattle.std.specs.Prelude.{◌≡◌, ℕ, ◌+◌, ◌-◌, ◌<◌, drop, Bool, true, false, List, [], ◌∷◌, ◌++◌, length, slice_get, slice_set, Option, None, Some}
 use Rattle.std.specs.List.{position}
-use Rattle.artery_base.specs.Words.{IsPrefix}
 use Rattle.artery_base.specs.declared.address.UniqueAddress.{UniqueAddress}
 use Rattle.artery_journal.specs.declared.line.Line.{Line}
 use Rattle.artery_journal.specs.declared.line.Line.TheVariants.{Sent, Told}
@@ -11,9 +10,9 @@ use Rattle.artery_judge.specs.Laws.{broken_law, plain}
 use Rattle.artery_judge.specs.Kept.{Stands}
 use Rattle.artery_judge.specs.Views.{Tables, kept}
 use Rattle.artery_audit.specs.declared.part.Part.{Part}
-use Rattle.artery_audit.specs.Parts.{AreParts, lines_by, part_of}
+use Rattle.artery_audit.specs.Parts.{AreParts, lines_by}
 use Rattle.artery_audit.specs.Merges.{law_after, IsFront, Cut}
-use Rattle.artery_audit.specs.Answers.{allowed, fitting, first_fitting, IsInTurn}
+use Rattle.artery_audit.specs.Answers.{fitting, first_fitting, IsInTurn}
 
 -- The incarnation that a line sends or tells something.
 abbrev pub receiver_of : Line → Option UniqueAddress

@@ -1,4 +1,4 @@
-use Rattle.std.proofs.Common.{sym, subst, ◌∙◌, false, true}
+use Rattle.std.proofs.Common.{sym, subst, ◌∙◌, false}
 use Rattle.artery_audit.specs.Merging.{Turned}
 use Rattle.artery_audit.proofs.Turns.{turns_idle, turns_none, turns_back, turns_on}
 use Rattle.artery_audit.proofs.merging.Merging.turn.Goals as goal
