@@ -1,0 +1,4 @@
+pub mod Parts
+pub mod Merges
+pub mod Answers
+pub mod Merging

@@ -1,0 +1,29 @@
+-- The parts of an audit.
+use Rattle.std.specs.Prelude.{◌≡◌, ℕ, Bool, true, false, List, [], ◌∷◌, slice_get, filter, Option, None, Some, if◌then◌else◌}
+use Rattle.artery_base.specs.declared.address.UniqueAddress.{UniqueAddress}
+use Rattle.artery_journal.specs.declared.line.Line.{Line}
+use Rattle.artery_judge.specs.Lines.{same, of}
+use Rattle.artery_audit.specs.declared.part.Part.{Part}
+
+-- No two parts are of the same incarnation, and each line of a part is of the part's incarnation.
+pub record AreApart (parts : List Part) : Type 0 where
+  pub apart : (i j : ℕ) (p q : Part) → slice_get parts i ≡ Some p → slice_get parts j ≡ Some q → same p.of q.of ≡ true → i ≡ j
+  pub own : (i k : ℕ) (p : Part) (line : Line) → slice_get parts i ≡ Some p → slice_get p.lines k ≡ Some line → same p.of (of line) ≡ true
+
+-- The same, as a word that proofs open only where they say so.
+unfoldable pub AreParts : List Part → Type 0
+AreParts parts = AreApart parts
+
+-- The lines of an incarnation, in their order.
+abbrev pub lines_by : UniqueAddress → List Line → List Line
+lines_by u lines = filter (λ line. same u (of line)) lines
+
+-- The lines of the part of an incarnation; none where it has no part.
+abbrev pub part_of : UniqueAddress → List Part → List Line
+part_of u [] = []
+part_of u (p ∷ ps) = if same u p.of then p.lines else part_of u ps
+
+-- Whether a part is there and is of this incarnation.
+abbrev pub last_is : UniqueAddress → Option Part → Bool
+last_is u None = false
+last_is u (Some p) = same p.of u

@@ -1,0 +1,86 @@
+//! Parts: the journals of several incarnations.
+ghost use Rattle.std.specs.Prelude.{◌≡◌, [], ◌∷◌, ◌++◌, length, ◌==◌, OnOk, OnErr};
+ghost use Rattle.artery_judge.specs.Lines.{same};
+
+use artery_base::{NoMemory, UniqueAddress};
+use artery_journal::Lines;
+use std::alloc::Global;
+use std::marker::Model;
+
+/// The journal of one incarnation, in form 1.
+#[derive(Drop)]
+pub struct Part {
+    /// The incarnation.
+    pub of: UniqueAddress,
+    /// Its lines, in the order written.
+    pub lines: Lines,
+}
+
+impl Part {
+    /// Whether it is the part of this incarnation.
+    pub(crate) fn is_of(&self, of: &UniqueAddress) -> bool
+        ensures { result ≡ same self.now.of of.now }
+    {
+        // numbers first, which tell most incarnations apart
+        if self.of.uid != of.uid {
+            return false;
+        }
+        self.of == *of
+    }
+}
+
+/// Parts, in the order given.
+#[derive(Drop)]
+pub struct Parts {
+    items: Vec<Part>,
+}
+
+impl Model for Parts {
+    ghost use Rattle.std.specs.Prelude.{List};
+    ghost use Rattle.artery_audit.specs.declared.part.Part.{Part};
+
+    ghost Value = { List Part };
+
+    ghost view = { λ p. p.items.items };
+}
+
+impl Parts {
+    /// No parts. Takes no memory.
+    pub fn new(alloc: Global) -> Parts
+        ensures { result ≡ [] }
+    {
+        Parts {
+            items: Vec::new(alloc),
+        }
+    }
+
+    /// How many parts there are.
+    pub fn len(&self) -> usize
+        ensures { result ≡ length self.now }
+    {
+        self.items.len()
+    }
+
+    /// Whether there are none.
+    pub fn is_empty(&self) -> bool
+        ensures { result ≡ (length self.now == 0) }
+    {
+        self.items.is_empty()
+    }
+
+    /// The parts, borrowed.
+    pub fn as_slice(&self) -> &[Part]
+        ensures { result.now ≡ self.now }
+    {
+        self.items.as_slice()
+    }
+
+    /// Adds a part at the end. Without memory nothing changes.
+    pub fn push(&mut self, part: Part) -> Result<(), NoMemory>
+        ensures ok { OnOk result (self.new ≡ self.old ++ part ∷ []) }
+        ensures err { OnErr result (self.new ≡ self.old) }
+    {
+        self.items.push(part)?;
+        Ok(())
+    }
+}
