@@ -74,11 +74,12 @@ impl Eq for Text {
 }
 
 impl Hash for Text {
-    ghost hash_input = { fed.slice fed.u8 };
+    ghost hash_input = { λ bytes. fed.usize (length bytes) ++ bytes ∷ [] };
 
     ghost respects_eq = { Prim.search (hashing, rules) };
 
     fn hash<H: Hasher>(&self, state: &mut H) {
-        self.items.hash(state);
+        state.write_usize(self.items.len());
+        state.write(&self.items);
     }
 }
