@@ -5,6 +5,7 @@
 //! further exactly as the rule of `artery_machine` with the same name says, over what a node keeps.
 #![tactic(auto)]
 
+mod asking;
 mod closing;
 mod copies;
 mod deeds;

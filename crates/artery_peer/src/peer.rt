@@ -1,6 +1,6 @@
 //! What a node knows of one peer.
 ghost use Rattle.std.specs.Prelude.{◌≡◌, ◌<◌, ◌≤◌, ◌^◌, ◌++◌, ◌∷◌, [], length, None, Some, IfOk, OnOk, OnErr, is_some, true};
-ghost use Rattle.artery_delivery.specs.Outbound.{acceptance, is_full, next_to_write, kept_accepted, kept_pumped};
+ghost use Rattle.artery_delivery.specs.Outbound.{acceptance, is_full, next_to_write, kept_accepted, kept_pumped, kept_rewound};
 ghost use Rattle.artery_assoc.specs.Peer.{is_closed};
 ghost use Rattle.artery_machine.specs.Parts.{kept};
 ghost use Rattle.artery_machine.specs.Node.{new_peer, address_of, current_of, conn_of, current_dial, is_peer, dialed_as, stream_dialed, with_link};
@@ -8,6 +8,7 @@ ghost use Rattle.artery_machine.specs.Making.{link_dialing, link_gone, link_lost
 ghost use Rattle.artery_machine.specs.Sending.{with_out, keeps_nothing, with_held, without_held};
 ghost use Rattle.artery_peer.specs.Accepting.{accepted_by};
 ghost use Rattle.artery_machine.specs.Closing.{with_closed, without_detector, with_new_tables};
+ghost use Rattle.artery_machine.specs.Handshaking.{quiet_now};
 
 use crate::connection::{dial_to, has_dial};
 use artery_assoc::Peer as Incarnations;
@@ -275,6 +276,20 @@ impl Peer {
         ensures { result ≡ is_full self.now.out }
     {
         self.out.is_full()
+    }
+
+    /// The writing begins anew at the first message that is kept.
+    pub fn rewind(&mut self)
+        ensures { self.new ≡ with_out kept_rewound self.old }
+    {
+        self.out.rewind();
+    }
+
+    /// The peer is quiet from now on.
+    pub fn set_quiet(&mut self, now: u64)
+        ensures { self.new ≡ quiet_now now self.old }
+    {
+        self.quiet = now;
     }
 
     /// A message is held behind the others. Without memory nothing changes.
