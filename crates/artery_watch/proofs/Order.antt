@@ -118,6 +118,7 @@ without_put t r n low high (e ∷ es) h w = by (nat_lt n e.1) refl (without_put 
     step : (b : Bool) → nat_lt n e.1 ≡ false → remove_entry t (put r n es) ≡ put r n (remove_entry t es) → cond b (put r n es) (e ∷ remove_entry t (put r n es)) ≡ put r n (cond b es (e ∷ remove_entry t es))
     step true is rest = refl
     step false is rest = ap (λ (xs : Numbered). e ∷ xs) rest ∙ sym (put_behind r n e (remove_entry t es) is)
+
     by : (b : Bool) → nat_lt n e.1 ≡ b → remove_entry t (put r n es) ≡ put r n (remove_entry t es) → remove_entry t (if b then (r, n) ∷ e ∷ es else e ∷ put r n es) ≡ put r n (remove_entry t (e ∷ es))
     by true is rest =
         let less = ltb-true n e.1 is in
@@ -156,6 +157,7 @@ kept_put q r n low high (e ∷ es) h w = by (nat_lt n e.1) refl (kept_put q r n 
     step : (b : Bool) → nat_lt n e.1 ≡ false → kept_by q (put r n es) ≡ put r n (kept_by q es) → cond b (e ∷ kept_by q (put r n es)) (kept_by q (put r n es)) ≡ put r n (cond b (e ∷ kept_by q es) (kept_by q es))
     step true is rest = ap (λ (xs : Numbered). e ∷ xs) rest ∙ sym (put_behind r n e (kept_by q es) is)
     step false is rest = rest
+
     by : (b : Bool) → nat_lt n e.1 ≡ b → kept_by q (put r n es) ≡ put r n (kept_by q es) → kept_by q (if b then (r, n) ∷ e ∷ es else e ∷ put r n es) ≡ put r n (kept_by q (e ∷ es))
     by true is rest =
         let less = ltb-true n e.1 is in
@@ -170,6 +172,7 @@ lost_put q r n (e ∷ es) h = by (nat_lt n e.1) (lost_put q r n es h)
     step : (b : Bool) → kept_by q (put r n es) ≡ kept_by q es → cond b (e ∷ kept_by q (put r n es)) (kept_by q (put r n es)) ≡ cond b (e ∷ kept_by q es) (kept_by q es)
     step true rest = ap (λ (xs : Numbered). e ∷ xs) rest
     step false rest = rest
+
     by : (b : Bool) → kept_by q (put r n es) ≡ kept_by q es → kept_by q (if b then (r, n) ∷ e ∷ es else e ∷ put r n es) ≡ kept_by q (e ∷ es)
     by true rest = ap (λ b. cond b ((r, n) ∷ kept_by q (e ∷ es)) (kept_by q (e ∷ es))) h
     by false rest = step (q e.0) rest

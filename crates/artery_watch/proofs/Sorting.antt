@@ -3,7 +3,7 @@ use Rattle.std.proofs.Common.{◌≡◌, ℕ, zero, suc, ◌+◌, ◌<◌, ◌�
 use Rattle.std.proofs.lemmas.Bool.Decides.{nat_tests}
 use Rattle.std.specs.Prelude.{Option, Some, None, is_some, ◌==◌, map, slice_get}
 use Rattle.std.specs.Ordering.{nat_cmp}
-use Rattle.std_collections.specs.BTreeMap.{insert_entry}
+use Rattle.std.specs.BTreeMap.{insert_entry}
 use Rattle.artery_watch.specs.declared.remote.RemoteWatcher.{RemoteWatcher}
 use Rattle.artery_watch.specs.Standing.{Places, Numbered, put, in_order, standing, IsWithin, Rises, watchers_by}
 use Rattle.artery_watch.proofs.Order.{keys, put_within}
@@ -30,21 +30,27 @@ rest_within low high (e ∷ es) zero w = w
 rest_within low high ((r, None) ∷ es) (suc i) w = rest_within low high es i w
 rest_within low high ((r, Some n) ∷ es) (suc i) w = rest_within low high es i (put_within r n low high (in_order es) w).rest
 
-behind : (es : Places) (i : ℕ) (e : RemoteWatcher × Option ℕ) → slice_get es i ≡ Some e → drop i es ≡ e ∷ drop (i + 1) es
+behind : (es : Places) (i : ℕ) (e : RemoteWatcher × Option ℕ) → slice_get es i ≡ Some e → drop i es ≡ e ∷ drop (suc i) es
 behind [] i e h = absurd (true≢false (sym (ap is_some h)))
 behind (x ∷ es) zero e h = ap (λ (o : Option (RemoteWatcher × Option ℕ)). elim o [ None ↦ x | Some z ↦ z ] ∷ es) h
 behind (x ∷ es) (suc i) e h = behind es i e h
 
+next : (i : ℕ) → suc i ≡ i + 1
+next i = omega arith
+
+behind_it : (es : Places) (i : ℕ) (e : RemoteWatcher × Option ℕ) → slice_get es i ≡ Some e → drop i es ≡ e ∷ drop (i + 1) es
+behind_it es i e h = behind es i e h ∙ ap (λ n. e ∷ drop n es) (next i)
+
 pub put_some : (es : Places) (i : ℕ) (r : RemoteWatcher) (n : ℕ) (old new : List (ℕ × List ℕ)) → Rises (in_order es) → slice_get es i ≡ Some (r, Some n) → old ≡ watchers_by (in_order (drop (i + 1) es))
     → new ≡ insert_entry nat_cmp old n r.watcher → new ≡ watchers_by (in_order (drop i es))
 put_some es i r n old new w at was is =
-    let here = behind es i (r, Some n) at in
+    let here = behind_it es i (r, Some n) at in
     is ∙ ap (λ xs. insert_entry nat_cmp xs n r.watcher) was
     ∙ put_is r n 0 w.high (in_order (drop (i + 1) es)) (rw (sym (ap in_order here)) (rest_within 0 w.high es i w.within))
     ∙ sym (ap (λ (xs : Places). watchers_by (in_order xs)) here)
 
 pub put_none : (es : Places) (i : ℕ) (r : RemoteWatcher) (old : List (ℕ × List ℕ)) → slice_get es i ≡ Some (r, None) → old ≡ watchers_by (in_order (drop (i + 1) es)) → old ≡ watchers_by (in_order (drop i es))
-put_none es i r old at was = was ∙ sym (ap (λ (xs : Places). watchers_by (in_order xs)) (behind es i (r, None) at))
+put_none es i r old at was = was ∙ sym (ap (λ (xs : Places). watchers_by (in_order xs)) (behind_it es i (r, None) at))
 
 pub none_behind : (es : Places) → [] ≡ watchers_by (in_order (drop (length es) es))
 none_behind [] = refl

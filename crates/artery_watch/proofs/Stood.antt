@@ -5,8 +5,6 @@ use Rattle.std.specs.List.{list_any, IsDistinct, AllByRecursion}
 use Rattle.std.specs.Map.{lookup, set_value, remove_entry, keys_of}
 use Rattle.std.specs.Set.{remove_key}
 use Rattle.std.specs.Cmp.Lexicographic.{bytes_decides}
-use Rattle.std.specs.Ordering.{nat_cmp}
-use Rattle.std.specs.BTreeMap.{insert_entry as put_entry}
 use Rattle.std.proofs.lemmas.Map.Keys.{IsDistinct-head, IsDistinct-tail}
 use Rattle.std.proofs.lemmas.Map.Made.{length-remove_key}
 use Rattle.std.proofs.lemmas.List.{length-append}
@@ -139,6 +137,9 @@ stand_after r n old new is = ap keys is ∙ keys_end (in_order old) r n
 
 pub stand_without : (r : RemoteWatcher) (old new : Places) → in_order new ≡ remove_entry (same_remote r) (in_order old) → standing new ≡ remove_key (same_remote r) (standing old)
 stand_without r old new is = ap keys is ∙ keys_without (same_remote r) (in_order old)
+
+pub stand_same : (old new : Places) → in_order new ≡ in_order old → standing new ≡ standing old
+stand_same old new is = ap keys is
 
 pub rises_after : (r : RemoteWatcher) (n : ℕ) (old new : Places) → IsWithin 0 n (in_order old) → in_order new ≡ in_order old ++ (r, n) ∷ [] → IsWithin 0 (n + 1) (in_order new)
 rises_after r n old new w is = subst (IsWithin 0 (n + 1)) (sym is) (within_end r n 0 n (in_order old) w (omega arith))

@@ -1,6 +1,8 @@
 //! The remote watches of one actor.
 ghost use Rattle.std.specs.Prelude.{◌≡◌, ◌+◌, ◌<◌, ◌≤◌, ℕ, Option, Some, None, [], ◌∷◌, ◌++◌, is_some, length, drop, map, filter, slice_get, false, OnOk, OnErr, IfOk};
+ghost use Rattle.std.specs.BTreeMap.{insert_entry};
 ghost use Rattle.std.specs.Map.{remove_entry};
+ghost use Rattle.std.specs.Ordering.{nat_cmp};
 ghost use Rattle.std.specs.Set.{remove_key};
 ghost use Rattle.indexmap.specs.Layout.{set_value_at};
 ghost use Rattle.artery_watch.specs.declared.remote.RemoteWatcher.{RemoteWatcher as RemoteWatcherValue};
@@ -101,7 +103,6 @@ fn leave_at(
 }
 
 /// Forgets an origin at each place, and counts those that stand then.
-#[tactic(auto, using(crate::proofs::Leaving::count_fits))]
 fn leave(places: &mut IndexMap<RemoteWatcher, Option<u64>>, origin: &UniqueAddress) -> usize
     ensures places { places.new.entries ≡ left_of origin.now places.old.entries }
     ensures count { result ≡ count places.new.entries }
@@ -155,21 +156,31 @@ fn fell(
     stood
 }
 
-/// Adds the watcher at one place, if it stands there, to those at the places behind it.
-#[tactic(auto, using(crate::proofs::Sorting::put_some, crate::proofs::Sorting::put_none))]
+/// Puts a watcher among others by its number.
+fn put(found: &mut BTreeMap<u64, Text>, number: u64, watcher: &Text) -> Result<(), NoMemory>
+    ensures { OnOk result (found.new.entries ≡ insert_entry nat_cmp found.old.entries number watcher.now) }
+{
+    let _old = found.insert(number, watcher.clone()?)?;
+    Ok(())
+}
+
+/// Puts the watcher at one place, if it stands there, among those at the places behind it.
 fn put_at(
     found: &mut BTreeMap<u64, Text>,
     places: &IndexMap<RemoteWatcher, Option<u64>>,
     at: usize,
 ) -> Result<(), NoMemory>
-    requires place { at < length places.now.entries }
     requires rises { Rises (in_order places.now.entries) }
     requires behind { found.old.entries ≡ watchers_by (in_order (drop (at + 1) places.now.entries)) }
     ensures { OnOk result (found.new.entries ≡ watchers_by (in_order (drop at places.now.entries))) }
 {
-    if let Some((remote, Some(number))) = places.get_index(at) {
-        let _old = found.insert(*number, remote.watcher.clone()?)?;
-    }
+    let Some((remote, number)) = places.get_index(at) else {
+        return Err(NoMemory);
+    };
+    let Some(number) = number else {
+        return Ok(());
+    };
+    put(found, *number, &remote.watcher)?;
     Ok(())
 }
 
@@ -192,7 +203,6 @@ fn by_number(
 }
 
 /// The watchers, one for each remote watch that stands.
-#[tactic(auto, using(crate::proofs::Sorting::watchers_are))]
 fn watchers_in(
     alloc: Global,
     places: &IndexMap<RemoteWatcher, Option<u64>>,
@@ -234,7 +244,7 @@ impl Remotes {
     }
 
     /// Adds a new one as the last. Without memory nothing changes, nor where so many were added that no number below 2^64 is left.
-    #[tactic(auto, using(crate::proofs::Stood::few_fit, crate::proofs::Stood::one_more, crate::proofs::Stood::stand_after, crate::proofs::Stood::rises_after, crate::proofs::Stood::rises_same))]
+    #[tactic(auto, using(crate::proofs::Stood::few_fit, crate::proofs::Stood::stand_after, crate::proofs::Stood::stand_same, crate::proofs::Stood::rises_same))]
     pub fn add(
         &mut self,
         alloc: Global,
@@ -257,7 +267,7 @@ impl Remotes {
     }
 
     /// Removes one, and answers whether it was there.
-    #[tactic(auto, using(crate::proofs::Stood::rises, crate::proofs::Stood::less_fit, crate::proofs::Stood::one_less, crate::proofs::Stood::same_many, crate::proofs::Stood::stand_without, crate::proofs::Stood::rises_without, crate::proofs::Stood::rises_same))]
+    #[tactic(auto, using(crate::proofs::Stood::rises, crate::proofs::Stood::stand_without, crate::proofs::Stood::stand_same, crate::proofs::Stood::one_less))]
     pub fn remove(&mut self, watcher: &Text, origin: &UniqueAddress) -> bool
         ensures answer { result ≡ is_among (remote_of watcher.now origin.now) self.old }
         ensures rest { self.new ≡ remove_key (same_remote (remote_of watcher.now origin.now)) self.old }

@@ -2,5 +2,5 @@ use Rattle.std.proofs.Common.{◌≡◌, ◌++◌, map}
 use Rattle.artery_watch.specs.Standing.{in_order, watchers_by}
 use Rattle.artery_watch.proofs.remotes.watchers_in.Given as goal
 
-abbrev pub invariant-loop-_number : goal.invariant-loop-_number
-invariant-loop-_number l = l.names ++ map (λ e. e.1) l.iterator ≡ map (λ e. e.1) (watchers_by (in_order l.places.entries))
+abbrev pub invariant-loop-number : goal.invariant-loop-number
+invariant-loop-number l = l.names ++ map (λ e. e.1) l._number-iterator ≡ map (λ e. e.1) (watchers_by (in_order l.places.entries))
