@@ -58,12 +58,14 @@ fn stands(
     }
 }
 
-/// Gives up the places of those that do not stand.
+/// Gives up the places of those that do not stand, once they are more than half of all.
 #[tactic(auto, using(crate::proofs::Stood::kept_after))]
-fn tidy(places: &mut IndexMap<RemoteWatcher, Option<u64>>)
+fn tidy(places: &mut IndexMap<RemoteWatcher, Option<u64>>, stand: usize)
     ensures { in_order places.new.entries ≡ in_order places.old.entries }
 {
-    keep_standing(places);
+    if places.len().saturating_sub(stand) > places.len() / 2 {
+        keep_standing(places);
+    }
 }
 
 /// Keeps the places of those that stand.
@@ -276,9 +278,7 @@ impl Remotes {
             return false;
         }
         self.stand -= 1;
-        if self.places.len() - self.stand > self.places.len() / 2 {
-            tidy(&mut self.places);
-        }
+        tidy(&mut self.places, self.stand);
         true
     }
 
@@ -288,6 +288,7 @@ impl Remotes {
         ensures { self.new ≡ not_from origin.now self.old }
     {
         self.stand = leave(&mut self.places, origin);
+        tidy(&mut self.places, self.stand);
     }
 
     /// The watchers, one for each remote watch.

@@ -3,7 +3,7 @@ use Rattle.artery_watch.specs.Keys.{remote_of}
 use Rattle.artery_watch.specs.Standing.{in_order, standing}
 use Rattle.artery_watch.specs.Watcher.{is_among}
 use Rattle.artery_watch.specs.declared.remote.RemoteWatcher.{RemoteWatcher}
-use Rattle.artery_watch.proofs.Stood.{one_less, less_fit, same_many, stand_without, stand_same, rises_without, rises_same}
+use Rattle.artery_watch.proofs.Stood.{one_less, same_many, stand_without, stand_same, rises_without, rises_same}
 use Rattle.artery_watch.proofs.remotes.Remotes.remove.Goals as goal
 
 pub invariant_of-self : goal.invariant_of-self
@@ -16,16 +16,8 @@ invariant_of-self c =
       rises_without r c.self.inside.added old new c.self.invariant.1 c.fell.ensures.rest,
     )
 
-pub overflow_sub-len : goal.overflow_sub-len
-overflow_sub-len c =
-    let r = remote_of c.args.watcher.now c.args.origin.now in
-    let old = c.self.inside.places.entries in
-    let new = c.fell.new.places.entries in
-    let among : is_among r (standing old) ≡ true = search rules in
-    less_fit r (standing old) new c.self.inside.stand c.len.result c.self.invariant.0 among (stand_without r old new c.fell.ensures.rest) c.len.ensures.len
-
-pub invariant_of-self-then-len-self : goal.invariant_of-self-then-len-self
-invariant_of-self-then-len-self c =
+pub invariant_of-self-2 : goal.invariant_of-self-2
+invariant_of-self-2 c =
     let r = remote_of c.args.watcher.now c.args.origin.now in
     let old = c.self.inside.places.entries in
     let mid = c.fell.new.places.entries in
@@ -36,12 +28,3 @@ invariant_of-self-then-len-self c =
       omega (arith, less, same),
       rises_same c.self.inside.added mid new (rises_without r c.self.inside.added old mid c.self.invariant.1 c.fell.ensures.rest) c.tidy.ensures,
     )
-
-pub invariant_of-self-else-len-self : goal.invariant_of-self-else-len-self
-invariant_of-self-else-len-self c =
-    let r = remote_of c.args.watcher.now c.args.origin.now in
-    let old = c.self.inside.places.entries in
-    let new = c.fell.new.places.entries in
-    let among : is_among r (standing old) ≡ true = search rules in
-    let less = one_less r (standing old) (standing new) c.self.inside.stand c.self.invariant.0 among (stand_without r old new c.fell.ensures.rest) in
-    (omega (arith, less), rises_without r c.self.inside.added old new c.self.invariant.1 c.fell.ensures.rest)
