@@ -1,5 +1,5 @@
 -- Places where an origin is forgotten one after the other.
-use Rattle.std.proofs.Common.{◌≡◌, ℕ, zero, suc, ◌+◌, ◌<◌, ◌≤◌, Bool, true, false, cond, List, [], ◌∷◌, ◌++◌, length, take, drop, refl, ap, sym, ◌∙◌, true≢false, arith}
+use Rattle.std.proofs.Common.{◌≡◌, ℕ, zero, suc, ◌+◌, ◌<◌, ◌≤◌, Bool, true, false, [], ◌∷◌, ◌++◌, length, take, drop, refl, ap, sym, ◌∙◌, true≢false, arith}
 use Rattle.std.specs.Prelude.{Option, Some, None, is_some, ◌&&◌, ◌==◌, slice_get}
 use Rattle.indexmap.specs.Layout.{set_value_at, length-set_value_at}
 use Rattle.artery_base.specs.declared.address.UniqueAddress.{UniqueAddress}

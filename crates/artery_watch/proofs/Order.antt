@@ -1,6 +1,6 @@
 -- Remote watches in the order of their numbers.
-use Rattle.std.proofs.Common.{◌≡◌, ℕ, zero, suc, ◌+◌, ◌<◌, ◌≤◌, Bool, true, false, cond, List, [], ◌∷◌, ◌++◌, length, refl, ap, sym, ◌∙◌, subst, true≢false, arith, nat_lt, nat_eq, lt-ltb, le-ltb, ltb-true, ltb-false}
-use Rattle.std.specs.Prelude.{Option, Some, None, is_some, not, ◌||◌, map, filter, if◌then◌else◌}
+use Rattle.std.proofs.Common.{◌≡◌, ℕ, ◌+◌, ◌<◌, ◌≤◌, Bool, true, false, cond, List, [], ◌∷◌, ◌++◌, length, refl, ap, sym, ◌∙◌, true≢false, arith, nat_lt, lt-ltb, le-ltb, ltb-true}
+use Rattle.std.specs.Prelude.{◌||◌, map, filter, if◌then◌else◌}
 use Rattle.std.specs.List.{list_any}
 use Rattle.std.specs.Map.{remove_entry}
 use Rattle.std.specs.Set.{remove_key}

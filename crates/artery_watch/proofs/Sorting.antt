@@ -1,11 +1,11 @@
 -- Watchers by their numbers, which are put one by one, the last place first.
-use Rattle.std.proofs.Common.{◌≡◌, ℕ, zero, suc, ◌+◌, ◌<◌, ◌≤◌, Bool, true, false, cond, List, [], ◌∷◌, ◌++◌, length, drop, refl, ap, sym, ◌∙◌, true≢false, arith, nat_lt, nat_eq, ltb-true, ltb-false}
+use Rattle.std.proofs.Common.{◌≡◌, ℕ, zero, suc, ◌+◌, ◌<◌, Bool, true, false, cond, List, [], ◌∷◌, length, drop, refl, ap, sym, ◌∙◌, true≢false, arith, nat_lt}
 use Rattle.std.proofs.lemmas.Bool.Decides.{nat_tests}
 use Rattle.std.specs.Prelude.{Option, Some, None, is_some, ◌==◌, map, slice_get}
 use Rattle.std.specs.Ordering.{nat_cmp}
 use Rattle.std.specs.BTreeMap.{insert_entry}
 use Rattle.artery_watch.specs.declared.remote.RemoteWatcher.{RemoteWatcher}
-use Rattle.artery_watch.specs.Standing.{Places, Numbered, put, in_order, standing, IsWithin, Rises, watchers_by}
+use Rattle.artery_watch.specs.Standing.{Places, Numbered, put, in_order, IsWithin, Rises, watchers_by}
 use Rattle.artery_watch.proofs.Order.{keys, put_within}
 
 equal_not : (n m : ℕ) → m < n → (n == m) ≡ false

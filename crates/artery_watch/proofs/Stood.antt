@@ -1,6 +1,6 @@
 -- Places of remote watches, of which some do not stand.
-use Rattle.std.proofs.Common.{◌≡◌, ℕ, zero, suc, ◌+◌, ◌-◌, ◌<◌, ◌≤◌, ◌^◌, Bool, true, false, cond, List, [], ◌∷◌, ◌++◌, length, take, drop, refl, ap, sym, ◌∙◌, subst, true≢false, arith, nat_lt, nat_eq, ltb-true, ltb-false, eqb-true, le-ltb}
-use Rattle.std.specs.Prelude.{Option, Some, None, is_some, not, ◌&&◌, ◌||◌, ◌==◌, map, filter, slice_get, if◌then◌else◌}
+use Rattle.std.proofs.Common.{◌≡◌, ℕ, suc, ◌+◌, ◌-◌, ◌<◌, ◌≤◌, ◌^◌, Bool, true, false, cond, List, [], ◌∷◌, ◌++◌, length, refl, ap, sym, ◌∙◌, subst, true≢false, arith, eqb-true}
+use Rattle.std.specs.Prelude.{Option, Some, None, is_some, not, ◌&&◌, ◌||◌, ◌==◌, filter}
 use Rattle.std.specs.List.{list_any, IsDistinct, AllByRecursion}
 use Rattle.std.specs.Map.{lookup, set_value, remove_entry, keys_of}
 use Rattle.std.specs.Set.{remove_key}
@@ -9,13 +9,12 @@ use Rattle.std.proofs.lemmas.Map.Keys.{IsDistinct-head, IsDistinct-tail}
 use Rattle.std.proofs.lemmas.Map.Made.{length-remove_key}
 use Rattle.std.proofs.lemmas.List.{length-append}
 use Rattle.indexmap.specs.IndexMap.{insert_entry}
-use Rattle.indexmap.specs.Layout.{set_value_at}
 use Rattle.artery_base.specs.declared.address.UniqueAddress.{UniqueAddress}
 use Rattle.artery_watch.specs.declared.remote.RemoteWatcher.{RemoteWatcher}
 use Rattle.artery_watch.specs.contracts.remote.RemoteWatcherPartialEq.TheImpl as remote_eq
 use Rattle.artery_watch.specs.contracts.remote.RemoteWatcherEq.TheImpl.Laws.{laws-law}
 use Rattle.artery_watch.specs.Keys.{same_remote, same_origin, same_text, same_address}
-use Rattle.artery_watch.specs.Standing.{Places, Numbered, put, in_order, standing, IsWithin, Rises, left, left_of, one_of, count, watchers_by}
+use Rattle.artery_watch.specs.Standing.{Places, Numbered, put, in_order, standing, IsWithin, Rises, left_of, count}
 use Rattle.artery_watch.specs.Watcher.{is_among, not_from}
 use Rattle.artery_watch.proofs.Inserted.{inserted_last, kept_absent}
 use Rattle.artery_watch.proofs.Order.{keys, kept_by, put_length, put_any, put_end, put_before, put_within, within_end, within_without, without_own, without_none, without_put, keys_without, keys_end, within_kept, kept_put, lost_put, keys_kept}

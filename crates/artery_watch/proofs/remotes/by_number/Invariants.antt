@@ -1,4 +1,4 @@
-use Rattle.std.proofs.Common.{◌≡◌, ◌≤◌, ℕ, drop, length}
+use Rattle.std.proofs.Common.{◌≡◌, ◌≤◌, drop, length}
 use Rattle.artery_watch.specs.Standing.{in_order, watchers_by}
 use Rattle.artery_watch.proofs.remotes.by_number.Given as goal
 

@@ -1,4 +1,4 @@
-use Rattle.std.proofs.Common.{rules, ◌≡◌, ◌∙◌, ap, Option, None}
+use Rattle.std.proofs.Common.{rules, ◌≡◌, ◌∙◌, ap, None}
 use Rattle.std.specs.Map.{set_value}
 use Rattle.artery_watch.specs.Keys.{same_remote, remote_of}
 use Rattle.artery_watch.specs.Standing.{in_order}

@@ -1,4 +1,4 @@
-use Rattle.std.proofs.Common.{◌≤◌, arith}
+use Rattle.std.proofs.Common.{arith}
 use Rattle.artery_watch.proofs.Leaving.{leave_step, count_step, size_step, count_fits}
 use Rattle.artery_watch.proofs.remotes.leave.Goals as goal
 

@@ -1,4 +1,4 @@
-use Rattle.std.proofs.Common.{rules, ◌≡◌, Option, Some, None, slice_get}
+use Rattle.std.proofs.Common.{rules, ◌≡◌, Some, None, slice_get}
 use Rattle.std.specs.BTreeMap.{insert_entry}
 use Rattle.std.specs.Ordering.{nat_cmp}
 use Rattle.artery_watch.proofs.Sorting.{put_some, put_none}

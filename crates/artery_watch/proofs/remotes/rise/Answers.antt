@@ -1,4 +1,4 @@
-use Rattle.std.proofs.Common.{rules, ◌≡◌, ◌∙◌, ap, Option, Some}
+use Rattle.std.proofs.Common.{rules, ◌≡◌, ◌∙◌, ap, Some}
 use Rattle.std.specs.Map.{lookup, set_value}
 use Rattle.artery_watch.specs.Keys.{same_remote, remote_of}
 use Rattle.artery_watch.specs.Standing.{in_order}

@@ -1,6 +1,6 @@
-use Rattle.std.proofs.Common.{rules, ◌≡◌, ◌+◌, ◌∙◌, Bool, true, false, length, ap, List, arith}
+use Rattle.std.proofs.Common.{rules, ◌≡◌, true, false, length, ap, List, arith}
 use Rattle.artery_watch.specs.Keys.{remote_of}
-use Rattle.artery_watch.specs.Standing.{in_order, standing}
+use Rattle.artery_watch.specs.Standing.{standing}
 use Rattle.artery_watch.specs.Watcher.{is_among}
 use Rattle.artery_watch.specs.declared.remote.RemoteWatcher.{RemoteWatcher}
 use Rattle.artery_watch.proofs.Stood.{one_less, same_many, stand_without, stand_same, rises_without, rises_same}
