@@ -5,6 +5,7 @@ pub mod Leaving
 pub mod Notices
 pub mod Order
 pub mod Places
+pub mod Rising
 pub mod Sorting
 pub mod Stood
 pub mod Stories

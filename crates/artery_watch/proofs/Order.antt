@@ -40,7 +40,7 @@ spans : (low high : ℕ) (xs : Numbered) → IsWithin low high xs → low ≤ hi
 spans low high [] h = h
 spans low high (e ∷ es) h = omega (arith, h.0, spans (e.1 + 1) high es h.1)
 
-put_front : (r : RemoteWatcher) (n high : ℕ) (xs : Numbered) → IsWithin (n + 1) high xs → put r n xs ≡ (r, n) ∷ xs
+pub put_front : (r : RemoteWatcher) (n high : ℕ) (xs : Numbered) → IsWithin (n + 1) high xs → put r n xs ≡ (r, n) ∷ xs
 put_front r n high [] h = refl
 put_front r n high (e ∷ es) h = ap (λ b. if b then (r, n) ∷ e ∷ es else e ∷ put r n es) (lt-ltb n e.1 (omega (arith, h.0)))
 

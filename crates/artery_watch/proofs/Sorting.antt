@@ -38,7 +38,7 @@ behind (x ∷ es) (suc i) e h = behind es i e h
 next : (i : ℕ) → suc i ≡ i + 1
 next i = omega arith
 
-behind_it : (es : Places) (i : ℕ) (e : RemoteWatcher × Option ℕ) → slice_get es i ≡ Some e → drop i es ≡ e ∷ drop (i + 1) es
+pub behind_it : (es : Places) (i : ℕ) (e : RemoteWatcher × Option ℕ) → slice_get es i ≡ Some e → drop i es ≡ e ∷ drop (i + 1) es
 behind_it es i e h = behind es i e h ∙ ap (λ n. e ∷ drop n es) (next i)
 
 pub put_some : (es : Places) (i : ℕ) (r : RemoteWatcher) (n : ℕ) (old new : List (ℕ × List ℕ)) → Rises (in_order es) → slice_get es i ≡ Some (r, Some n) → old ≡ watchers_by (in_order (drop (i + 1) es))

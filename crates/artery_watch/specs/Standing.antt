@@ -1,5 +1,5 @@
 -- The remote watches of an actor as they are kept: each has a place, and a number where it stands. One that was removed may keep its place for a while.
-use Rattle.std.specs.Prelude.{ℕ, ◌+◌, ◌≤◌, nat_lt, Option, Some, None, List, [], ◌∷◌, map, if◌then◌else◌}
+use Rattle.std.specs.Prelude.{◌≡◌, is_some, ℕ, ◌+◌, ◌≤◌, nat_lt, Option, Some, None, List, [], ◌∷◌, map, if◌then◌else◌}
 use Rattle.artery_base.specs.declared.address.UniqueAddress.{UniqueAddress}
 use Rattle.artery_watch.specs.Keys.{same_origin}
 use Rattle.artery_watch.specs.declared.remote.RemoteWatcher.{RemoteWatcher}
@@ -58,3 +58,20 @@ count (place ∷ places) = one_of place.1 + count places
 -- The watchers by their numbers.
 abbrev pub watchers_by : Numbered → List (ℕ × List ℕ)
 watchers_by xs = map (λ numbered. (numbered.1, numbered.0.watcher)) xs
+
+-- Those that stand, in the order of their places, with their numbers.
+abbrev pub listed : Places → Numbered
+listed [] = []
+listed ((r, None) ∷ places) = listed places
+listed ((r, Some n) ∷ places) = (r, n) ∷ listed places
+
+-- Those that stand, in the order of their places.
+abbrev pub by_place : Places → List RemoteWatcher
+by_place [] = []
+by_place (place ∷ places) = if is_some place.1 then place.0 ∷ by_place places else by_place places
+
+-- The numbers rise from place to place, and none is below one number.
+pub record IsRising (low : ℕ) (places : Places) : Type 0 where
+  pub high : ℕ
+  pub within : IsWithin low high (listed places)
+  pub same : in_order places ≡ listed places

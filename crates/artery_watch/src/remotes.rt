@@ -1,5 +1,5 @@
 //! The remote watches of one actor.
-ghost use Rattle.std.specs.Prelude.{◌≡◌, ◌+◌, ◌<◌, ◌≤◌, ℕ, Option, Some, None, [], ◌∷◌, ◌++◌, is_some, length, drop, map, filter, slice_get, false, OnOk, OnErr, IfOk};
+ghost use Rattle.std.specs.Prelude.{◌≡◌, ◌+◌, ◌<◌, ◌≤◌, ℕ, Option, Some, None, [], ◌∷◌, ◌++◌, is_some, length, drop, map, filter, slice_get, true, false, OnOk, OnErr, IfOk, IfSome};
 ghost use Rattle.std.specs.BTreeMap.{insert_entry};
 ghost use Rattle.std.specs.Map.{remove_entry};
 ghost use Rattle.std.specs.Ordering.{nat_cmp};
@@ -7,7 +7,7 @@ ghost use Rattle.std.specs.Set.{remove_key};
 ghost use Rattle.indexmap.specs.Layout.{set_value_at};
 ghost use Rattle.artery_watch.specs.declared.remote.RemoteWatcher.{RemoteWatcher as RemoteWatcherValue};
 ghost use Rattle.artery_watch.specs.Keys.{same_remote, same_origin, remote_of};
-ghost use Rattle.artery_watch.specs.Standing.{in_order, standing, IsWithin, Rises, left, left_of, one_of, count, watchers_by};
+ghost use Rattle.artery_watch.specs.Standing.{in_order, standing, IsWithin, Rises, left, left_of, one_of, count, watchers_by, listed, by_place, IsRising};
 ghost use Rattle.artery_watch.specs.Watcher.{is_among, not_from};
 
 use crate::remote::{RemoteRef, RemoteWatcher};
@@ -204,8 +204,8 @@ fn by_number(
     Ok(found)
 }
 
-/// The watchers, one for each remote watch that stands.
-fn watchers_in(
+/// The watchers in the order of their numbers.
+fn sorted_watchers(
     alloc: Global,
     places: &IndexMap<RemoteWatcher, Option<u64>>,
 ) -> Result<Names, NoMemory>
@@ -216,6 +216,81 @@ fn watchers_in(
     for (_number, watcher) in by_number(alloc, places)? {
         names.push(watcher)?;
     }
+    Ok(names)
+}
+
+/// The lowest number from one place on, where the numbers rise from there on; behind it they do, and none is below `low`.
+fn lowest_from(places: &IndexMap<RemoteWatcher, Option<u64>>, at: usize, low: u64) -> Option<u64>
+    requires { IsRising low (drop (at + 1) places.now.entries) }
+    ensures { IfSome result (λ low. IsRising low (drop at places.now.entries)) }
+{
+    let Some((_remote, number)) = places.get_index(at) else {
+        return None;
+    };
+    let Some(number) = number else {
+        return Some(low);
+    };
+    if *number >= low {
+        return None;
+    }
+    Some(*number)
+}
+
+/// Whether the numbers rise from place to place.
+#[tactic(auto, using(crate::proofs::Rising::rising_end, crate::proofs::Rising::rising_all))]
+fn are_in_order(places: &IndexMap<RemoteWatcher, Option<u64>>) -> bool
+    ensures { result ≡ true → in_order places.now.entries ≡ listed places.now.entries }
+{
+    let mut low = u64::MAX;
+    let mut at = places.len();
+    while at > 0 {
+        at -= 1;
+        let Some(next) = lowest_from(places, at, low) else {
+            return false;
+        };
+        low = next;
+    }
+    true
+}
+
+/// Adds the watcher of a remote watch at the end.
+fn push_watcher(names: &mut Names, remote: &RemoteWatcher) -> Result<(), NoMemory>
+    ensures { OnOk result (names.new ≡ names.old ++ remote.now.watcher ∷ []) }
+{
+    names.push(remote.watcher.clone()?)
+}
+
+/// The watchers in the order of their places.
+fn placed_watchers(
+    alloc: Global,
+    places: &IndexMap<RemoteWatcher, Option<u64>>,
+) -> Result<Names, NoMemory>
+    ensures { IfOk result (λ names. names ≡ map (λ remote. remote.watcher) (by_place places.now.entries)) }
+{
+    let mut names = Names::new(alloc);
+    for (remote, number) in places.iter() {
+        if number.is_some() {
+            push_watcher(&mut names, remote)?;
+        }
+    }
+    Ok(names)
+}
+
+/// The watchers, one for each remote watch that stands: sorted by their numbers, unless these rise from place to place, as they do where none
+/// was added again, or all in turn.
+#[tactic(auto, using(crate::proofs::Rising::by_place_is))]
+fn watchers_in(
+    alloc: Global,
+    places: &IndexMap<RemoteWatcher, Option<u64>>,
+) -> Result<Names, NoMemory>
+    requires { Rises (in_order places.now.entries) }
+    ensures { IfOk result (λ names. names ≡ map (λ remote. remote.watcher) (standing places.now.entries)) }
+{
+    if are_in_order(places) {
+        let names = placed_watchers(alloc, places)?;
+        return Ok(names);
+    }
+    let names = sorted_watchers(alloc, places)?;
     Ok(names)
 }
 

@@ -1,7 +1,7 @@
 use Rattle.std.proofs.Common.{rules, ◌≡◌, ◌∙◌, ℕ, List, map}
 use Rattle.artery_watch.specs.Standing.{in_order, watchers_by}
 use Rattle.artery_watch.proofs.Sorting.{watchers_are}
-use Rattle.artery_watch.proofs.remotes.watchers_in.Goals as goal
+use Rattle.artery_watch.proofs.remotes.sorted_watchers.Goals as goal
 
 pub returns : goal.returns
 returns c =
