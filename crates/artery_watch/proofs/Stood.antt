@@ -1,5 +1,5 @@
 -- Places of remote watches, of which some do not stand.
-use Rattle.std.proofs.Common.{◌≡◌, ℕ, suc, ◌+◌, ◌-◌, ◌<◌, ◌≤◌, ◌^◌, Bool, true, false, cond, List, [], ◌∷◌, ◌++◌, length, refl, ap, sym, ◌∙◌, subst, true≢false, arith, eqb-true}
+use Rattle.std.proofs.Common.{◌≡◌, ℕ, suc, ◌+◌, ◌<◌, ◌≤◌, ◌^◌, Bool, true, false, cond, List, [], ◌∷◌, ◌++◌, length, refl, ap, sym, ◌∙◌, subst, true≢false, arith, eqb-true}
 use Rattle.std.specs.Prelude.{Option, Some, None, is_some, not, ◌&&◌, ◌||◌, ◌==◌, filter}
 use Rattle.std.specs.List.{list_any, IsDistinct, AllByRecursion}
 use Rattle.std.specs.Map.{lookup, set_value, remove_entry, keys_of}
@@ -216,9 +216,6 @@ few_fit es n len c is small = omega (arith, c, is, small, few_stand es)
 
 pub one_less : (r : RemoteWatcher) (old new : List RemoteWatcher) (n : ℕ) → n ≡ length old → is_among r old ≡ true → new ≡ remove_key (same_remote r) old → n ≡ length new + 1
 one_less r old new n c h is = omega (arith, c, ap (λ (xs : List RemoteWatcher). length xs) is, length-remove_key (same_remote r) old h)
-
-pub less_fit : (r : RemoteWatcher) (old : List RemoteWatcher) (new : Places) (n len : ℕ) → n ≡ length old → is_among r old ≡ true → standing new ≡ remove_key (same_remote r) old → len ≡ length new → n - 1 ≤ len
-less_fit r old new n len c h is l = omega (arith, l, few_stand new, one_less r old (standing new) n c h is)
 
 pub same_many : (r : RemoteWatcher) (old new : List RemoteWatcher) (n : ℕ) → n ≡ length old → is_among r old ≡ false → new ≡ remove_key (same_remote r) old → n ≡ length new
 same_many r old new n c h is = c ∙ sym (ap (λ (xs : List RemoteWatcher). length xs) (is ∙ kept_absent (same_remote r) old h))
