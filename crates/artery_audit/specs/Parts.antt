@@ -1,5 +1,6 @@
 -- The parts of an audit.
-use Rattle.std.specs.Prelude.{◌≡◌, ℕ, Bool, true, false, List, [], ◌∷◌, slice_get, filter, Option, None, Some, if◌then◌else◌}
+use Rattle.std.specs.Prelude.{◌≡◌, ℕ, ◌-◌, Bool, true, false, List, [], ◌∷◌, ◌++◌, length, slice_get, slice_set, filter, Option, None, Some, if◌then◌else◌}
+use Rattle.std.specs.List.{list_any}
 use Rattle.artery_base.specs.declared.address.UniqueAddress.{UniqueAddress}
 use Rattle.artery_journal.specs.declared.line.Line.{Line}
 use Rattle.artery_judge.specs.Lines.{same, of}
@@ -27,3 +28,28 @@ part_of u (p ∷ ps) = if same u p.of then p.lines else part_of u ps
 abbrev pub last_is : UniqueAddress → Option Part → Bool
 last_is u None = false
 last_is u (Some p) = same p.of u
+
+-- The last part.
+abbrev pub last_part : List Part → Option Part
+last_part parts = slice_get parts (length parts - 1)
+
+-- Whether a line is of the last part's incarnation.
+abbrev pub takes : Line → List Part → Bool
+takes line parts = last_is (of line) (last_part parts)
+
+-- Whether one of the parts is of this incarnation.
+abbrev pub has_part : UniqueAddress → List Part → Bool
+has_part u parts = list_any (λ p. same p.of u) parts
+
+-- A part with a line more at its end.
+abbrev pub lined : Line → Part → Part
+lined line p = record { of = p.of; lines = p.lines ++ line ∷ [] }
+
+-- Parts in which the one at a place is replaced, if it is there.
+abbrev pub lined_at : ℕ → Line → List Part → Option Part → List Part
+lined_at k line parts None = parts
+lined_at k line parts (Some p) = slice_set parts k (lined line p)
+
+-- Parts with a line more at the end of the last one.
+abbrev pub with_line : Line → List Part → List Part
+with_line line parts = lined_at (length parts - 1) line parts (last_part parts)

@@ -6,6 +6,7 @@
 //! change them, and then what was written is a stated part of it.
 #![tactic(auto)]
 
+mod auditing;
 mod checking;
 mod command;
 mod fault_text;
