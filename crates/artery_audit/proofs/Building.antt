@@ -1,14 +1,15 @@
 -- Parts with a part more, or with a line more.
-use Rattle.std.proofs.Common.{◌≡◌, ℕ, zero, suc, Bool, true, false, ◌||◌, List, [], ◌∷◌, ◌++◌, length, refl, ap, sym, ◌∙◌, true≢false, inl, inr}
+use Rattle.std.proofs.Common.{◌≡◌, ℕ, zero, suc, ◌-◌, Bool, true, false, ◌||◌, List, [], ◌∷◌, ◌++◌, length, refl, ap, sym, subst, ◌∙◌, true≢false, inl, inr, arith}
 use Rattle.std.proofs.lemmas.Bool.{cases_eq}
-use Rattle.std.specs.Prelude.{Some, None, slice_get, slice_set, is_some, ◌⊎◌}
+use Rattle.std.proofs.lemmas.List.{append-nil, length-append}
+use Rattle.std.specs.Prelude.{Option, Some, None, slice_get, slice_set, is_some, ◌⊎◌}
 use Rattle.std.specs.List.{list_any}
 use Rattle.artery_base.specs.declared.address.UniqueAddress.{UniqueAddress}
 use Rattle.artery_journal.specs.declared.line.Line.{Line}
 use Rattle.artery_judge.specs.Lines.{same, of}
 use Rattle.artery_audit.specs.declared.part.Part.{Part}
-use Rattle.artery_audit.specs.Parts.{AreParts, last_is}
-use Rattle.artery_audit.proofs.Lines.{opened, closed, same_turned, some_is, set_there, set_elsewhere}
+use Rattle.artery_audit.specs.Parts.{AreParts, last_is, last_part, takes, has_part, begun, lined, lined_at, with_line}
+use Rattle.artery_audit.proofs.Lines.{opened, closed, same_turned, some_is, set_there, set_elsewhere, at_length}
 
 -- an element of a list and one more
 one_of : {X : Type 0} (xs : List X) (y x : X) (i : ℕ) → slice_get (xs ++ y ∷ []) i ≡ Some x → (slice_get xs i ≡ Some x) ⊎ ((i ≡ length xs) × (x ≡ y))
@@ -21,7 +22,7 @@ one_of (z ∷ zs) y x (suc i) at = by (one_of zs y x i at)
     by (inl e) = inl e
     by (inr e) = inr (ap suc e.0, e.1)
 
-none_is : (t : Part → Bool) (parts : List Part) (i : ℕ) (p : Part) → list_any t parts ≡ false → slice_get parts i ≡ Some p → t p ≡ false
+pub none_is : (t : Part → Bool) (parts : List Part) (i : ℕ) (p : Part) → list_any t parts ≡ false → slice_get parts i ≡ Some p → t p ≡ false
 none_is t [] i p none at = cc
 none_is t (q ∷ qs) i p none at = by (t q) refl none i at (none_is t qs)
   where
@@ -99,3 +100,34 @@ line_pushed parts k old new line ok at mine name more = line_more parts k old ne
 
 pub line_not_pushed : (parts : List Part) (k : ℕ) (old new : Part) → AreParts parts → slice_get parts k ≡ Some old → new.of ≡ old.of → new.lines ≡ old.lines → AreParts (slice_set parts k new)
 line_not_pushed parts k old new ok at name same_lines = part_changed parts k old new ok at name (λ n l there. (opened parts ok).own k n old l at (ap (λ (xs : List Line). slice_get xs n) (sym same_lines) ∙ there))
+
+-- the part of an incarnation more, which has none
+pub part_begun : (parts : List Part) (u : UniqueAddress) → AreParts parts → has_part u parts ≡ false → AreParts (parts ++ begun u ∷ [])
+part_begun parts u ok none = part_more parts (begun u) ok none refl
+
+-- a line of the last part's incarnation more
+pub line_added : (parts : List Part) (line : Line) → AreParts parts → takes line parts ≡ true → AreParts (with_line line parts)
+line_added parts line ok mine = by (last_part parts) refl mine
+  where
+    by : (o : Option Part) → last_part parts ≡ o → last_is (of line) o ≡ true → AreParts (lined_at (length parts - 1) line parts o)
+    by None at own = ok
+    by (Some p) at own = line_more parts (length parts - 1) p (lined line p) line ok at refl refl own
+
+length_one_more : (xs : List Part) (p : Part) → length (xs ++ p ∷ []) - 1 ≡ length xs
+length_one_more xs p = omega (arith, length-append xs (p ∷ []))
+
+set_last : (xs : List Part) (p q : Part) → slice_set (xs ++ p ∷ []) (length xs) q ≡ xs ++ q ∷ []
+set_last [] p q = refl
+set_last (x ∷ xs) p q = ap (λ (r : List Part). x ∷ r) (set_last xs p q)
+
+-- the last part is taken out and put back with a line more
+pub pushed_last : (line : Line) (old xs new : List Part) (p q : Part) → old ≡ xs ++ p ∷ [] → q ≡ lined line p → new ≡ xs ++ q ∷ [] → new ≡ with_line line old
+pushed_last line old xs new p q was is now =
+    let here : last_part (xs ++ p ∷ []) ≡ Some p = ap (slice_get (xs ++ p ∷ [])) (length_one_more xs p) ∙ at_length xs [] p in
+    now ∙ ap (λ r. xs ++ r ∷ []) is ∙ sym (set_last xs p (lined line p)) ∙ ap (λ k. slice_set (xs ++ p ∷ []) k (lined line p)) (sym (length_one_more xs p))
+    ∙ ap (lined_at (length (xs ++ p ∷ []) - 1) line (xs ++ p ∷ [])) (sym here) ∙ ap (with_line line) (sym was)
+
+-- there is no last part
+pub pushed_nowhere : (line : Line) (old new : List Part) → old ≡ new ++ [] → length old ≡ 0 → new ≡ with_line line old
+pushed_nowhere line [] new was none = sym (was ∙ append-nil new)
+pushed_nowhere line (p ∷ ps) new was none = cc

@@ -1,6 +1,6 @@
 -- The parts of an audit.
-use Rattle.std.specs.Prelude.{◌≡◌, ℕ, ◌-◌, Bool, true, false, List, [], ◌∷◌, ◌++◌, length, slice_get, slice_set, filter, Option, None, Some, if◌then◌else◌}
-use Rattle.std.specs.List.{list_any}
+use Rattle.std.specs.Prelude.{◌≡◌, ℕ, ◌-◌, Bool, true, false, not, ◌&&◌, List, [], ◌∷◌, ◌++◌, length, slice_get, slice_set, filter, Option, None, Some, if◌then◌else◌}
+use Rattle.std.specs.List.{list_any, list_all}
 use Rattle.artery_base.specs.declared.address.UniqueAddress.{UniqueAddress}
 use Rattle.artery_journal.specs.declared.line.Line.{Line}
 use Rattle.artery_judge.specs.Lines.{same, of}
@@ -53,3 +53,16 @@ lined_at k line parts (Some p) = slice_set parts k (lined line p)
 -- Parts with a line more at the end of the last one.
 abbrev pub with_line : Line → List Part → List Part
 with_line line parts = lined_at (length parts - 1) line parts (last_part parts)
+
+-- The part of an incarnation, with no line yet.
+abbrev pub begun : UniqueAddress → Part
+begun u = record { of = u; lines = [] }
+
+-- Whether each line of a part is of the part's incarnation.
+abbrev pub is_own : Part → Bool
+is_own p = list_all (λ line. same p.of (of line)) p.lines
+
+-- Whether no two parts are of the same incarnation, and each line of a part is of the part's incarnation.
+abbrev pub are_parts : List Part → Bool
+are_parts [] = true
+are_parts (p ∷ ps) = not (has_part p.of ps) && (is_own p && are_parts ps)

@@ -104,14 +104,16 @@ impl Parts {
         }
     }
 
-    /// Adds a line at the end of the last part, if there is one.
+    /// Adds a line at the end of the last part, if there is one. Without memory this part may be gone.
+    #[tactic(auto, using(crate::proofs::Building::pushed_last, crate::proofs::Building::pushed_nowhere))]
     pub fn push_line(&mut self, line: Line) -> Result<(), NoMemory>
         ensures { OnOk result (self.new ≡ with_line line self.old) }
     {
-        let Some(last) = self.items.len().checked_sub(1) else {
+        let Some(mut last) = self.items.pop() else {
             return Ok(());
         };
-        let part = &mut self.items[last];
-        part.push(line)
+        last.push(line)?;
+        self.items.push(last)?;
+        Ok(())
     }
 }

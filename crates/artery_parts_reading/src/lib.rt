@@ -12,4 +12,3 @@ mod told;
 pub use fault::PartsFault;
 pub use reading::{MOST_PARTS, read_parts};
 pub use told::Told;
-

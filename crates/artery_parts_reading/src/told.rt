@@ -1,4 +1,8 @@
 //! What one line tells.
+ghost use Rattle.artery_lines.specs.Lines.{Tells};
+ghost use Rattle.artery_journal_reading.specs.Reading.{unique_told};
+ghost use Rattle.artery_parts_reading.specs.Lines.{begun_in, line_in, told_of};
+
 use artery_base::UniqueAddress;
 use artery_journal::Line;
 use artery_journal_reading::read_line;
@@ -16,16 +20,21 @@ pub enum Told {
 }
 
 /// An incarnation.
-fn unique_from(alloc: Global, text: &[u8]) -> Result<UniqueAddress, LineFault> {
+#[tactic(auto, using(crate::proofs::Naming::tells_unique))]
+fn unique_from(alloc: Global, text: &[u8]) -> Result<UniqueAddress, LineFault>
+    ensures { Tells result (unique_told text.now) }
+{
     Ok(read_unique(alloc, text)?)
 }
 
 /// The beginning of a part, from the fields behind `of`.
-fn begun_from(alloc: Global, fields: &mut Tokens<'_>) -> Result<Told, LineFault> {
+fn begun_from(alloc: Global, fields: &mut Tokens<'_>) -> Result<Told, LineFault>
+    ensures { Tells result (begun_in fields.old) }
+{
     let Some(name) = fields.next() else {
         return Err(LineFault::BadLine);
     };
-    if !fields.is_empty() {
+    if let Some(_more) = fields.next() {
         return Err(LineFault::BadLine);
     }
     let of = unique_from(alloc, name)?;
@@ -33,13 +42,18 @@ fn begun_from(alloc: Global, fields: &mut Tokens<'_>) -> Result<Told, LineFault>
 }
 
 /// A line of a journal.
-fn line_from(alloc: Global, text: &[u8]) -> Result<Told, LineFault> {
+fn line_from(alloc: Global, text: &[u8]) -> Result<Told, LineFault>
+    ensures { Tells result (line_in text.now) }
+{
     let line = read_line(alloc, text)?;
     Ok(Told::Line { line })
 }
 
 /// What a line tells.
-pub(crate) fn told_from(alloc: Global, text: &[u8]) -> Result<Told, LineFault> {
+#[tactic(auto, unfolding(crate::specs::Lines::told_of))]
+pub(crate) fn told_from(alloc: Global, text: &[u8]) -> Result<Told, LineFault>
+    ensures { Tells result (told_of text.now) }
+{
     let mut fields = Tokens::new(text);
     let Some(word) = fields.next() else {
         return Err(LineFault::BadLine);
