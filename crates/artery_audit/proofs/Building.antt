@@ -1,7 +1,6 @@
 -- Parts with a part more, or with a line more.
-use Rattle.std.proofs.Common.{◌≡◌, ℕ, zero, suc, ◌-◌, Bool, true, false, ◌||◌, List, [], ◌∷◌, ◌++◌, length, refl, ap, sym, subst, ◌∙◌, true≢false, inl, inr, arith}
+use Rattle.std.proofs.Common.{◌≡◌, ℕ, zero, suc, ◌-◌, ◌<◌, Bool, true, false, ◌||◌, List, [], ◌∷◌, ◌++◌, length, refl, ap, sym, subst, ◌∙◌, true≢false, inl, inr, arith}
 use Rattle.std.proofs.lemmas.Bool.{cases_eq}
-use Rattle.std.proofs.lemmas.List.{append-nil, length-append}
 use Rattle.std.specs.Prelude.{Option, Some, None, slice_get, slice_set, is_some, ◌⊎◌}
 use Rattle.std.specs.List.{list_any}
 use Rattle.artery_base.specs.declared.address.UniqueAddress.{UniqueAddress}
@@ -9,7 +8,7 @@ use Rattle.artery_journal.specs.declared.line.Line.{Line}
 use Rattle.artery_judge.specs.Lines.{same, of}
 use Rattle.artery_audit.specs.declared.part.Part.{Part}
 use Rattle.artery_audit.specs.Parts.{AreParts, last_is, last_part, takes, has_part, begun, lined, lined_at, with_line}
-use Rattle.artery_audit.proofs.Lines.{opened, closed, same_turned, some_is, set_there, set_elsewhere, at_length}
+use Rattle.artery_audit.proofs.Lines.{opened, closed, same_turned, some_is, set_there, set_elsewhere}
 
 -- an element of a list and one more
 one_of : {X : Type 0} (xs : List X) (y x : X) (i : ℕ) → slice_get (xs ++ y ∷ []) i ≡ Some x → (slice_get xs i ≡ Some x) ⊎ ((i ≡ length xs) × (x ≡ y))
@@ -113,21 +112,15 @@ line_added parts line ok mine = by (last_part parts) refl mine
     by None at own = ok
     by (Some p) at own = line_more parts (length parts - 1) p (lined line p) line ok at refl refl own
 
-length_one_more : (xs : List Part) (p : Part) → length (xs ++ p ∷ []) - 1 ≡ length xs
-length_one_more xs p = omega (arith, length-append xs (p ∷ []))
+-- parts that take a line are some
+pub has_last : (line : Line) (parts : List Part) → takes line parts ≡ true → 0 < length parts
+has_last line [] h = absurd cc
+has_last line (p ∷ ps) h = omega arith
 
-set_last : (xs : List Part) (p q : Part) → slice_set (xs ++ p ∷ []) (length xs) q ≡ xs ++ q ∷ []
-set_last [] p q = refl
-set_last (x ∷ xs) p q = ap (λ (r : List Part). x ∷ r) (set_last xs p q)
-
--- the last part is taken out and put back with a line more
-pub pushed_last : (line : Line) (old xs new : List Part) (p q : Part) → old ≡ xs ++ p ∷ [] → q ≡ lined line p → new ≡ xs ++ q ∷ [] → new ≡ with_line line old
-pushed_last line old xs new p q was is now =
-    let here : last_part (xs ++ p ∷ []) ≡ Some p = ap (slice_get (xs ++ p ∷ [])) (length_one_more xs p) ∙ at_length xs [] p in
-    now ∙ ap (λ r. xs ++ r ∷ []) is ∙ sym (set_last xs p (lined line p)) ∙ ap (λ k. slice_set (xs ++ p ∷ []) k (lined line p)) (sym (length_one_more xs p))
-    ∙ ap (lined_at (length (xs ++ p ∷ []) - 1) line (xs ++ p ∷ [])) (sym here) ∙ ap (with_line line) (sym was)
-
--- there is no last part
-pub pushed_nowhere : (line : Line) (old new : List Part) → old ≡ new ++ [] → length old ≡ 0 → new ≡ with_line line old
-pushed_nowhere line [] new was none = sym (was ∙ append-nil new)
-pushed_nowhere line (p ∷ ps) new was none = cc
+-- and one is the last
+pub there_is_last : (line : Line) (parts : List Part) → takes line parts ≡ true → (p : Part) × (slice_get parts (length parts - 1) ≡ Some p)
+there_is_last line parts h = by (last_part parts) refl h
+  where
+    by : (o : Option Part) → last_part parts ≡ o → last_is (of line) o ≡ true → (p : Part) × (slice_get parts (length parts - 1) ≡ Some p)
+    by None at own = absurd cc
+    by (Some p) at own = (p, at)

@@ -1,5 +1,5 @@
 //! Parts: the journals of several incarnations.
-ghost use Rattle.std.specs.Prelude.{◌≡◌, [], ◌∷◌, ◌++◌, length, ◌==◌, OnOk, OnErr};
+ghost use Rattle.std.specs.Prelude.{◌≡◌, [], ◌∷◌, ◌++◌, length, ◌==◌, true, OnOk, OnErr};
 ghost use Rattle.artery_judge.specs.Lines.{same};
 ghost use Rattle.artery_audit.specs.Parts.{lined, with_line, takes};
 
@@ -104,16 +104,15 @@ impl Parts {
         }
     }
 
-    /// Adds a line at the end of the last part, if there is one. Without memory this part may be gone.
-    #[tactic(auto, using(crate::proofs::Building::pushed_last, crate::proofs::Building::pushed_nowhere))]
+    /// Adds a line of the last part's incarnation at this part's end.
+    #[tactic(auto, using(crate::proofs::Building::has_last))]
     pub fn push_line(&mut self, line: Line) -> Result<(), NoMemory>
+        requires { takes line self.old ≡ true }
         ensures { OnOk result (self.new ≡ with_line line self.old) }
     {
-        let Some(mut last) = self.items.pop() else {
-            return Ok(());
-        };
-        last.push(line)?;
-        self.items.push(last)?;
+        let last = self.items.len() - 1;
+        let part = &mut self.items[last];
+        part.push(line)?;
         Ok(())
     }
 }

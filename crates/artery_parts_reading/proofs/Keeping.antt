@@ -1,7 +1,7 @@
 -- What is kept of parts under way, with a part or a line more.
 use Rattle.std.proofs.Common.{◌≡◌, ℕ, zero, suc, ◌-◌, Bool, true, false, ◌||◌, List, [], ◌∷◌, ◌++◌, length, refl, ap, sym, subst, ◌∙◌, true≢false}
 use Rattle.std.proofs.lemmas.List.{map-append}
-use Rattle.std.specs.Prelude.{Option, Some, None, map, slice_get, slice_set, if◌then◌else◌}
+use Rattle.std.specs.Prelude.{Option, Some, None, Ok, Err, map, slice_get, slice_set, if◌then◌else◌}
 use Rattle.std.specs.List.{list_any}
 use Rattle.indexmap.specs.IndexSet.{insert_key}
 use Rattle.artery_base.specs.declared.address.UniqueAddress.{UniqueAddress}
@@ -10,8 +10,10 @@ use Rattle.artery_journal.specs.declared.line.Line.{Line}
 use Rattle.artery_judge.specs.Lines.{same}
 use Rattle.artery_audit.specs.declared.part.Part.{Part}
 use Rattle.artery_audit.specs.Parts.{AreParts, last_part, takes, has_part, begun, lined, lined_at, with_line}
+use Rattle.artery_parts_reading.specs.declared.fault.PartsFault.TheVariants as parts_faults
+use Rattle.artery_parts_reading.specs.Parts.{at_line}
 use Rattle.artery_parts_reading.specs.declared.told.Told.TheVariants as says
-use Rattle.artery_parts_reading.specs.Gathering.{Gathering, IsGathering, with_told, Added}
+use Rattle.artery_parts_reading.specs.Gathering.{Gathering, IsGathering, with_told, with_text, Keeps}
 
 -- the name of a part
 abbrev pub name : Part → UniqueAddress
@@ -53,10 +55,11 @@ abbrev pub LineLaw : Type 0
 LineLaw = (parts : List Part) (line : Line) → AreParts parts → takes line parts ≡ true → AreParts (with_line line parts)
 
 -- a part was begun
-pub begins : PartLaw → (old new : Gathering) (u : UniqueAddress) → IsGathering old → list_any (same u) old.names ≡ false → new.parts ≡ old.parts ++ begun u ∷ [] → new.names ≡ insert_key same old.names u → Added true new (with_told old.parts (says.Of u))
-begins law old new u ok none parts names =
+pub begins : PartLaw → (n : ℕ) (old new : Gathering) (u : UniqueAddress) → IsGathering old → list_any (same u) old.names ≡ false → new.parts ≡ old.parts ++ begun u ∷ [] → new.names ≡ insert_key same old.names u
+    → (at_line n (with_told old.parts (says.Of u)) ≡ Ok new.parts) × IsGathering new
+begins law n old new u ok none parts names =
     let new_part : has_part u old.parts ≡ false = sym (has_name u old ok) ∙ none in (
-      ap (λ (b : Bool). if b then None else Some (old.parts ++ begun u ∷ [])) new_part ∙ ap Some (sym parts),
+      ap (λ (b : Bool). at_line n (if b then None else Some (old.parts ++ begun u ∷ []))) new_part ∙ ap Ok (sym parts),
       record {
         names = names ∙ names_more old.names old.parts u ok.names none ∙ ap (map name) (sym parts);
         apart = subst AreParts (sym parts) (law old.parts u ok.apart new_part);
@@ -64,13 +67,14 @@ begins law old new u ok none parts names =
     )
 
 -- there is a part of this incarnation
-pub has_begun : (old : Gathering) (u : UniqueAddress) → IsGathering old → list_any (same u) old.names ≡ true → with_told old.parts (says.Of u) ≡ None
-has_begun old u ok there = ap (λ (b : Bool). if b then None else Some (old.parts ++ begun u ∷ [])) (sym (has_name u old ok) ∙ there)
+pub has_begun : (n : ℕ) (old : Gathering) (u : UniqueAddress) → IsGathering old → list_any (same u) old.names ≡ true → at_line n (with_told old.parts (says.Of u)) ≡ Err (parts_faults.BadLine n)
+has_begun n old u ok there = ap (λ (b : Bool). at_line n (if b then None else Some (old.parts ++ begun u ∷ []))) (sym (has_name u old ok) ∙ there)
 
 -- a line was added
-pub goes_on : LineLaw → (old new : Gathering) (line : Line) → IsGathering old → takes line old.parts ≡ true → new.parts ≡ with_line line old.parts → new.names ≡ old.names → Added true new (with_told old.parts (says.Line line))
-goes_on law old new line ok mine parts names = (
-  ap (λ (b : Bool). if b then Some (with_line line old.parts) else None) mine ∙ ap Some (sym parts),
+pub goes_on : LineLaw → (n : ℕ) (old new : Gathering) (line : Line) → IsGathering old → takes line old.parts ≡ true → new.parts ≡ with_line line old.parts → new.names ≡ old.names
+    → (at_line n (with_told old.parts (says.Line line)) ≡ Ok new.parts) × IsGathering new
+goes_on law n old new line ok mine parts names = (
+  ap (λ (b : Bool). at_line n (if b then Some (with_line line old.parts) else None)) mine ∙ ap Ok (sym parts),
   record {
     names = names ∙ ok.names ∙ sym (names_same old.parts line) ∙ ap (map name) (sym parts);
     apart = subst AreParts (sym parts) (law old.parts line ok.apart mine);
@@ -78,5 +82,5 @@ goes_on law old new line ok mine parts names = (
 )
 
 -- the line is of another incarnation
-pub is_other : (old : Gathering) (line : Line) → takes line old.parts ≡ false → with_told old.parts (says.Line line) ≡ None
-is_other old line other = ap (λ (b : Bool). if b then Some (with_line line old.parts) else None) other
+pub is_other : (n : ℕ) (old : Gathering) (line : Line) → takes line old.parts ≡ false → at_line n (with_told old.parts (says.Line line)) ≡ Err (parts_faults.BadLine n)
+is_other n old line other = ap (λ (b : Bool). at_line n (if b then Some (with_line line old.parts) else None)) other

@@ -1,5 +1,5 @@
 -- Parts under way: what is kept while lines are read.
-use Rattle.std.specs.Prelude.{◌≡◌, ℕ, Bool, true, false, List, ◌∷◌, ◌++◌, [], map, Option, None, Some, Result, Ok, Err, if◌then◌else◌}
+use Rattle.std.specs.Prelude.{◌≡◌, ℕ, List, ◌∷◌, ◌++◌, [], map, Option, None, Some, Result, Ok, Err, if◌then◌else◌}
 use Rattle.artery_base.specs.Words.{Unless}
 use Rattle.artery_base.specs.declared.address.UniqueAddress.{UniqueAddress}
 use Rattle.artery_audit.specs.declared.part.Part.{Part}
@@ -29,11 +29,6 @@ with_told parts (says.Line line) = if takes line parts then Some (with_line line
 abbrev pub with_said : List Part → Option Told → Option (List Part)
 with_said parts None = None
 with_said parts (Some t) = with_told parts t
-
--- Whether something was added, and then this is what was made.
-abbrev pub Added : Bool → Gathering → Option (List Part) → Type 0
-Added true g made = (made ≡ Some g.parts) × IsGathering g
-Added false g made = made ≡ None
 
 -- The parts with what the line of a text with this number tells, or that it is bad.
 abbrev pub with_text : ℕ → List ℕ → List Part → Result (List Part) PartsFault

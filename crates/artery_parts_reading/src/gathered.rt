@@ -1,11 +1,14 @@
 //! Parts under way: what the lines of a text have told so far.
-ghost use Rattle.std.specs.Prelude.{◌≡◌, [], ◌∷◌, ◌++◌, false, IfOk, OnOk};
+ghost use Rattle.std.specs.Prelude.{◌≡◌, [], ◌∷◌, ◌++◌, Some, None, if◌then◌else◌, OnOk};
 ghost use Rattle.std.specs.List.{list_any};
 ghost use Rattle.indexmap.specs.IndexSet.{insert_key};
 ghost use Rattle.artery_judge.specs.Lines.{same};
 ghost use Rattle.artery_audit.specs.Parts.{begun};
 ghost use Rattle.artery_parts_reading.specs.declared.told.Told.TheVariants as says;
-ghost use Rattle.artery_parts_reading.specs.Gathering.{Gathering, IsGathering, with_told, Added, with_text, Keeps};
+ghost use Rattle.artery_parts_reading.specs.Gathering.{IsGathering, with_told, with_text, Keeps};
+ghost use Rattle.artery_parts_reading.specs.Lines.{told_of};
+ghost use Rattle.artery_parts_reading.specs.Parts.{at_line, parts_memory};
+ghost use Rattle.artery_base.specs.Words.{Gives};
 
 use crate::fault::PartsFault;
 use crate::told::{Told, told_from};
@@ -31,6 +34,28 @@ impl Model for Gathered {
     ghost Value = { Gathering };
 
     ghost view = { λ g. record { parts = g.parts; names = g.names.keys } };
+}
+
+/// What was read of the line with this number, if it is good.
+fn good<T: Drop>(n: u64, is_good: bool, read: T) -> Result<T, PartsFault>
+    ensures { result ≡ at_line n (if is_good then Some read else None) }
+{
+    if is_good {
+        Ok(read)
+    } else {
+        Err(PartsFault::BadLine { line: n })
+    }
+}
+
+/// What the line with this number tells.
+fn told_at(alloc: Global, n: u64, text: &[u8]) -> Result<Told, PartsFault>
+    ensures { Gives parts_memory result (at_line n (told_of text.now)) }
+{
+    match told_from(alloc, text) {
+        Ok(told) => Ok(told),
+        Err(LineFault::BadLine) => Err(PartsFault::BadLine { line: n }),
+        Err(LineFault::NoMemory) => Err(PartsFault::NoMemory),
+    }
 }
 
 impl Gathered {
@@ -65,42 +90,40 @@ impl Gathered {
         Ok(())
     }
 
-    /// Adds the part of an incarnation; `false` where it has one.
+    /// Adds the part of an incarnation, which the line with this number begins.
     #[tactic(auto, using(crate::proofs::Keeping::begins, crate::proofs::Keeping::has_begun))]
-    fn add_part(&mut self, alloc: Global, of: UniqueAddress) -> Result<bool, NoMemory>
+    fn add_part(&mut self, alloc: Global, n: u64, of: UniqueAddress) -> Result<(), PartsFault>
         requires { IsGathering self.old }
-        ensures { IfOk result (λ good. Added good self.new (with_told self.old.parts (says.Of of))) }
+        ensures { Keeps result self.new (at_line n (with_told self.old.parts (says.Of of))) }
     {
         parts_are_built();
-        if self.has(&of) {
-            return Ok(false);
-        }
+        let is_new = !self.has(&of);
+        let of = good(n, is_new, of)?;
         self.begin(alloc, of)?;
-        Ok(true)
+        Ok(())
     }
 
-    /// Adds a line; `false` where it is of another incarnation than the last part.
+    /// Adds the line with this number.
     #[tactic(auto, using(crate::proofs::Keeping::goes_on, crate::proofs::Keeping::is_other))]
-    fn add_line(&mut self, line: Line) -> Result<bool, NoMemory>
+    fn add_line(&mut self, n: u64, line: Line) -> Result<(), PartsFault>
         requires { IsGathering self.old }
-        ensures { IfOk result (λ good. Added good self.new (with_told self.old.parts (says.Line line))) }
+        ensures { Keeps result self.new (at_line n (with_told self.old.parts (says.Line line))) }
     {
         parts_are_built();
-        if !self.parts.takes(&line) {
-            return Ok(false);
-        }
+        let is_own = self.parts.takes(&line);
+        let line = good(n, is_own, line)?;
         self.parts.push_line(line)?;
-        Ok(true)
+        Ok(())
     }
 
-    /// Adds what a line tells; `false` where it is bad behind the lines before.
-    fn add(&mut self, alloc: Global, told: Told) -> Result<bool, NoMemory>
+    /// Adds what the line with this number tells.
+    fn add(&mut self, alloc: Global, n: u64, told: Told) -> Result<(), PartsFault>
         requires { IsGathering self.old }
-        ensures { IfOk result (λ good. Added good self.new (with_told self.old.parts told)) }
+        ensures { Keeps result self.new (at_line n (with_told self.old.parts told)) }
     {
         match told {
-            Told::Of { of } => self.add_part(alloc, of),
-            Told::Line { line } => self.add_line(line),
+            Told::Of { of } => self.add_part(alloc, n, of),
+            Told::Line { line } => self.add_line(n, line),
         }
     }
 
@@ -109,15 +132,9 @@ impl Gathered {
         requires { IsGathering self.old }
         ensures { Keeps result self.new (with_text n text.now self.old.parts) }
     {
-        let told = match told_from(alloc, text) {
-            Ok(told) => told,
-            Err(LineFault::BadLine) => return Err(PartsFault::BadLine { line: n }),
-            Err(LineFault::NoMemory) => return Err(PartsFault::NoMemory),
-        };
-        if self.add(alloc, told)? {
-            return Ok(());
-        }
-        Err(PartsFault::BadLine { line: n })
+        let told = told_at(alloc, n, text)?;
+        self.add(alloc, n, told)?;
+        Ok(())
     }
 
     /// The parts.
