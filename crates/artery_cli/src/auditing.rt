@@ -31,7 +31,7 @@ fn put_lines(lines: &[&Line], text: &mut Bytes) -> Result<(), NoMemory>
 }
 
 /// The lines of a merge.
-#[tactic(auto, using(std::proofs::lemmas::List::Folds::flat_map-map))]
+#[tactic(auto, using(crate::proofs::Merges::text_of_merge))]
 fn merge_text(alloc: Global, merge: &Merge<'_>) -> Result<Bytes, NoMemory>
     ensures { IfOk result (λ text. text ≡ lines_text merge.now) }
 {

@@ -1,10 +1,11 @@
 //! Parts under way: what the lines of a text have told so far.
-ghost use Rattle.std.specs.Prelude.{◌≡◌, [], ◌∷◌, ◌++◌, Some, None, if◌then◌else◌, OnOk};
+ghost use Rattle.std.specs.Prelude.{◌≡◌, [], ◌∷◌, ◌++◌, true, false, OnOk, IfOk, IfErr};
 ghost use Rattle.std.specs.List.{list_any};
 ghost use Rattle.indexmap.specs.IndexSet.{insert_key};
 ghost use Rattle.artery_judge.specs.Lines.{same};
 ghost use Rattle.artery_audit.specs.Parts.{begun};
 ghost use Rattle.artery_parts_reading.specs.declared.told.Told.TheVariants as says;
+ghost use Rattle.artery_parts_reading.specs.declared.fault.PartsFault.TheVariants as parts_faults;
 ghost use Rattle.artery_parts_reading.specs.Gathering.{IsGathering, with_told, with_text, Keeps};
 ghost use Rattle.artery_parts_reading.specs.Lines.{told_of};
 ghost use Rattle.artery_parts_reading.specs.Parts.{at_line, parts_memory};
@@ -38,7 +39,8 @@ impl Model for Gathered {
 
 /// What was read of the line with this number, if it is good.
 fn good<T: Drop>(n: u64, is_good: bool, read: T) -> Result<T, PartsFault>
-    ensures { result ≡ at_line n (if is_good then Some read else None) }
+    ensures ok { IfOk result (λ kept. (is_good ≡ true) × (kept ≡ read)) }
+    ensures err { IfErr result (λ fault. (is_good ≡ false) × (fault ≡ parts_faults.BadLine n)) }
 {
     if is_good {
         Ok(read)
