@@ -1,8 +1,7 @@
 -- What an audit finds is a function of the parts.
-use Rattle.std.proofs.Common.{◌≡◌, ℕ, zero, suc, ◌+◌, ◌-◌, ◌<◌, ◌≤◌, Bool, true, false, List, [], ◌∷◌, ◌++◌, length, refl, ap, sym, subst, ◌∙◌, append_assoc, arith}
-use Rattle.std.proofs.lemmas.List.{append-nil, length-append, length-take-le}
-use Rattle.std.specs.Prelude.{Option, Some, None, option_map, unwrap_or, slice_get, Result, Ok, Err, if◌then◌else◌}
-use Rattle.artery_base.specs.Words.{IsPrefix}
+use Rattle.std.proofs.Common.{◌≡◌, ℕ, zero, suc, ◌+◌, ◌-◌, ◌<◌, ◌≤◌, Bool, true, false, List, [], ◌∷◌, ◌++◌, length, refl, ap, sym, subst, ◌∙◌, arith}
+use Rattle.std.proofs.lemmas.List.{append-nil, length-append}
+use Rattle.std.specs.Prelude.{Option, Some, None, option_map, unwrap_or, slice_get, Err}
 use Rattle.artery_base.specs.declared.address.UniqueAddress.{UniqueAddress}
 use Rattle.artery_journal.specs.declared.line.Line.{Line}
 use Rattle.artery_judge.specs.declared.verdict.Law.{Law}
@@ -12,9 +11,9 @@ use Rattle.artery_audit.specs.declared.audited.Audited.{Audited}
 use Rattle.artery_audit.specs.declared.audited.Audited.TheVariants.{Lawful, Broken}
 use Rattle.artery_audit.specs.Parts.{AreParts, lines_by, part_of}
 use Rattle.artery_audit.specs.Merges.{law_after, IsLawful, IsMerge, IsFront, Cut, Reaches, IsGreatest}
-use Rattle.artery_audit.specs.Answers.{allowed, fitting, or_else, first_fitting, IsInTurn, IsMergeInTurn, Left, first_left, IsStuck, IsAnswer}
+use Rattle.artery_audit.specs.Answers.{allowed, fitting, or_else, first_fitting, IsInTurn, first_left, IsAnswer}
 use Rattle.artery_audit.specs.Merging.{cut_of}
-use Rattle.artery_audit.specs.Outcome.{all_lines, going_on, merged, StuckAt, found, outcome, told}
+use Rattle.artery_audit.specs.Outcome.{all_lines, going_on, merged, found, outcome, told}
 use Rattle.artery_audit.proofs.Lines.{opened, same_self, some_is, one_more, each_more, by_more, by_other, before_end}
 use Rattle.artery_audit.proofs.Reach.{greatest, reaches_own}
 use Rattle.artery_audit.proofs.Steps.{own_part, allowed_is, front_more, in_turn_lawful}

@@ -1,8 +1,7 @@
 -- The two conditions on parts, and the test that decides them.
 use Rattle.std.proofs.Common.{◌≡◌, ℕ, zero, suc, Bool, true, false, not, ◌&&◌, ◌||◌, List, [], ◌∷◌, refl, ap, sym, ◌∙◌, true≢false}
-use Rattle.std.specs.Prelude.{Option, Some, None, slice_get, IsTrue, ◌↔◌}
+use Rattle.std.specs.Prelude.{Some, slice_get, IsTrue, ◌↔◌}
 use Rattle.std.specs.List.{list_any, list_all}
-use Rattle.artery_base.specs.declared.address.UniqueAddress.{UniqueAddress}
 use Rattle.artery_journal.specs.declared.line.Line.{Line}
 use Rattle.artery_judge.specs.Lines.{same, of}
 use Rattle.artery_audit.specs.declared.part.Part.{Part}

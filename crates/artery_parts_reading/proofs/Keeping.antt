@@ -1,5 +1,5 @@
 -- What is kept of parts under way, with a part or a line more.
-use Rattle.std.proofs.Common.{◌≡◌, ℕ, zero, suc, ◌-◌, Bool, true, false, ◌||◌, List, [], ◌∷◌, ◌++◌, length, refl, ap, sym, subst, ◌∙◌, true≢false}
+use Rattle.std.proofs.Common.{◌≡◌, ℕ, zero, suc, ◌-◌, Bool, true, false, ◌||◌, List, [], ◌∷◌, ◌++◌, length, refl, ap, sym, subst, ◌∙◌}
 use Rattle.std.proofs.lemmas.List.{map-append}
 use Rattle.std.specs.Prelude.{Option, Some, None, Ok, Err, map, slice_get, slice_set, if◌then◌else◌}
 use Rattle.std.specs.List.{list_any}
@@ -13,7 +13,7 @@ use Rattle.artery_audit.specs.Parts.{AreParts, last_part, takes, has_part, begun
 use Rattle.artery_parts_reading.specs.declared.fault.PartsFault.TheVariants as parts_faults
 use Rattle.artery_parts_reading.specs.Parts.{at_line}
 use Rattle.artery_parts_reading.specs.declared.told.Told.TheVariants as says
-use Rattle.artery_parts_reading.specs.Gathering.{Gathering, IsGathering, with_told, with_text, Keeps}
+use Rattle.artery_parts_reading.specs.Gathering.{Gathering, IsGathering, with_told}
 
 -- the name of a part
 abbrev pub name : Part → UniqueAddress

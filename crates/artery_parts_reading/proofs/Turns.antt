@@ -1,5 +1,5 @@
 -- The lines of a text, read one after the other.
-use Rattle.std.proofs.Common.{◌≡◌, ℕ, ◌+◌, Bool, true, false, List, [], ◌∷◌, Result, Ok, Err, refl, sym, ap, ◌∙◌}
+use Rattle.std.proofs.Common.{◌≡◌, ℕ, ◌+◌, Bool, true, false, List, [], ◌∷◌, Result, Ok, Err, sym, ap, ◌∙◌}
 use Rattle.artery_base.specs.Words.{Unless, Gives, ◌>>=◌}
 use Rattle.artery_audit.specs.declared.part.Part.{Part}
 use Rattle.artery_parts_reading.specs.declared.fault.PartsFault.{PartsFault}

@@ -1,19 +1,19 @@
 -- Parts that grow line by line are those of all that the lines tell.
-use Rattle.std.proofs.Common.{◌≡◌, ℕ, zero, suc, ◌+◌, ◌-◌, Bool, true, false, not, ◌||◌, List, [], ◌∷◌, ◌++◌, length, Result, Ok, Err, refl, ap, sym, subst, ◌∙◌, arith}
-use Rattle.std.specs.Prelude.{Option, Some, None, option_map, slice_get, slice_set, if◌then◌else◌}
+use Rattle.std.proofs.Common.{◌≡◌, ℕ, suc, ◌+◌, ◌-◌, Bool, true, false, ◌||◌, List, [], ◌∷◌, ◌++◌, length, Result, Ok, refl, ap, sym, ◌∙◌, arith}
+use Rattle.std.specs.Prelude.{Option, Some, None, option_map, slice_get}
 use Rattle.std.specs.List.{list_any}
 use Rattle.artery_base.specs.Words.{◌>>=◌}
 use Rattle.artery_base.specs.declared.address.UniqueAddress.{UniqueAddress}
 use Rattle.artery_journal.specs.declared.line.Line.{Line}
 use Rattle.artery_judge.specs.Lines.{same, of}
 use Rattle.artery_audit.specs.declared.part.Part.{Part}
-use Rattle.artery_audit.specs.Parts.{last_is, last_part, takes, has_part, begun, lined, lined_at, with_line}
+use Rattle.artery_audit.specs.Parts.{last_is, last_part, takes, has_part, begun, lined_at, with_line}
 use Rattle.artery_parts_reading.specs.declared.told.Told.{Told}
 use Rattle.artery_parts_reading.specs.declared.told.Told.TheVariants as says
 use Rattle.artery_parts_reading.specs.declared.fault.PartsFault.{PartsFault}
-use Rattle.artery_parts_reading.specs.Lines.{told_of, is_begin, last_begun, is_the, is_good, good_behind}
+use Rattle.artery_parts_reading.specs.Lines.{told_of, is_begin, last_begun, is_the, good_behind}
 use Rattle.artery_parts_reading.specs.Parts.{at_line, told_from, lines_in, parts_in, parts_told}
-use Rattle.artery_parts_reading.specs.Gathering.{with_told, with_said, with_text}
+use Rattle.artery_parts_reading.specs.Gathering.{with_said}
 use Rattle.artery_parts_reading.proofs.Turns.{parts_from}
 
 -- ---- the last of several parts
