@@ -237,9 +237,13 @@ broken_word (Some law) = law_word law
 abbrev pub stuck_text : StuckAt → List ℕ
 stuck_text stuck = codes "fault audit " ++ unique_text stuck.of ++ codes " " ++ decimal stuck.number ++ codes " " ++ broken_word stuck.law ++ codes "\n"
 
--- the lines of journals, each with its line feed
+-- a line of a journal with its line feed
+unfoldable pub ended_line : JournalLine → List ℕ
+ended_line line = line_text line ++ codes "\n"
+
+-- the lines of journals, one after the other
 abbrev pub lines_text : List JournalLine → List ℕ
-lines_text lines = flat_map (λ line. line_text line ++ codes "\n") lines
+lines_text lines = flat_map ended_line lines
 
 -- parts that fit together: told so, or with `--merge` by the lines of their merge; else with status 1 the part that is stuck
 abbrev pub audited_answer : Bool → Result (List JournalLine) StuckAt → Answer

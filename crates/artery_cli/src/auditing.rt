@@ -1,9 +1,8 @@
-ghost use Rattle.std.specs.Prelude.{◌≡◌, ◌++◌, flat_map, codes, Some, Ok, IfOk, OnOk};
-ghost use Rattle.artery_journal.specs.Texts.{line_text};
+ghost use Rattle.std.specs.Prelude.{◌≡◌, ◌++◌, flat_map, Some, Ok, IfOk, OnOk};
 ghost use Rattle.artery_audit.specs.Parts.{AreParts};
 ghost use Rattle.artery_audit.specs.Outcome.{told, outcome};
 ghost use Rattle.artery_parts_reading.specs.Parts.{parts_of};
-ghost use Rattle.artery_cli.specs.Answers.{lines_text, stuck_text, audited_answer, parts_answer};
+ghost use Rattle.artery_cli.specs.Answers.{ended_line, lines_text, stuck_text, audited_answer, parts_answer};
 ghost use Rattle.artery_cli.specs.Telling.{AnswersOrStops};
 
 use crate::judging::law_word;
@@ -19,19 +18,27 @@ use artery_parts_reading::{PartsFault, read_parts};
 use artery_text::{print_number, print_unique};
 use std::alloc::Global;
 
-/// Appends lines, each with its line feed.
+/// Appends a line with its line feed.
+#[tactic(auto, unfolding(crate::specs::Answers::ended_line))]
+fn put_line(line: &Line, text: &mut Bytes) -> Result<(), NoMemory>
+    ensures { OnOk result (text.new ≡ text.old ++ ended_line line.now) }
+{
+    print_line(line, text)?;
+    text.push(b'\n')?;
+    Ok(())
+}
+
+/// Appends lines, one after the other.
 fn put_lines(lines: &[&Line], text: &mut Bytes) -> Result<(), NoMemory>
-    ensures { OnOk result (text.new ≡ text.old ++ flat_map (λ line. line_text line.now ++ codes "\n") lines.now) }
+    ensures { OnOk result (text.new ≡ text.old ++ flat_map (λ line. ended_line line.now) lines.now) }
 {
     for line in lines {
-        print_line(line, text)?;
-        text.push(b'\n')?;
+        put_line(line, text)?;
     }
     Ok(())
 }
 
 /// The lines of a merge.
-#[tactic(auto, using(crate::proofs::Merges::text_of_merge))]
 fn merge_text(alloc: Global, merge: &Merge<'_>) -> Result<Bytes, NoMemory>
     ensures { IfOk result (λ text. text ≡ lines_text merge.now) }
 {
