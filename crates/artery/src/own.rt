@@ -60,6 +60,8 @@ const USAGE: &[u8] = b"artery show < BYTES             tells the bytes of one co
 artery make < LINES             writes the bytes that stream and frame lines tell
 artery check control M < HEX    tells the control message of a payload under the manifest M
 artery check journal < JOURNAL  tells whether a journal is lawful, or its first line that is not
+artery audit < PARTS            tells whether the journals of several incarnations fit together
+artery audit --merge < PARTS    writes the lawful merge of these journals
 artery replay < SCRIPT          writes the journal of a script of a network
 artery --help                   tells this
 artery --version                tells the version

@@ -1,13 +1,13 @@
 -- Parts with a part more, or with a line more.
-use Rattle.std.proofs.Common.{◌≡◌, ℕ, zero, suc, Bool, true, false, ◌||◌, List, [], ◌∷◌, ◌++◌, length, refl, ap, sym, ◌∙◌, true≢false, inl, inr}
+use Rattle.std.proofs.Common.{◌≡◌, ℕ, zero, suc, ◌-◌, ◌<◌, Bool, true, false, ◌||◌, List, [], ◌∷◌, ◌++◌, length, refl, ap, sym, ◌∙◌, true≢false, inl, inr, arith}
 use Rattle.std.proofs.lemmas.Bool.{cases_eq}
-use Rattle.std.specs.Prelude.{Some, None, slice_get, slice_set, is_some, ◌⊎◌}
+use Rattle.std.specs.Prelude.{Option, Some, None, slice_get, slice_set, is_some, ◌⊎◌}
 use Rattle.std.specs.List.{list_any}
 use Rattle.artery_base.specs.declared.address.UniqueAddress.{UniqueAddress}
 use Rattle.artery_journal.specs.declared.line.Line.{Line}
 use Rattle.artery_judge.specs.Lines.{same, of}
 use Rattle.artery_audit.specs.declared.part.Part.{Part}
-use Rattle.artery_audit.specs.Parts.{AreParts, last_is}
+use Rattle.artery_audit.specs.Parts.{AreParts, last_is, last_part, takes, has_part, begun, lined, lined_at, with_line}
 use Rattle.artery_audit.proofs.Lines.{opened, closed, same_turned, some_is, set_there, set_elsewhere}
 
 -- an element of a list and one more
@@ -21,7 +21,7 @@ one_of (z ∷ zs) y x (suc i) at = by (one_of zs y x i at)
     by (inl e) = inl e
     by (inr e) = inr (ap suc e.0, e.1)
 
-none_is : (t : Part → Bool) (parts : List Part) (i : ℕ) (p : Part) → list_any t parts ≡ false → slice_get parts i ≡ Some p → t p ≡ false
+pub none_is : (t : Part → Bool) (parts : List Part) (i : ℕ) (p : Part) → list_any t parts ≡ false → slice_get parts i ≡ Some p → t p ≡ false
 none_is t [] i p none at = cc
 none_is t (q ∷ qs) i p none at = by (t q) refl none i at (none_is t qs)
   where
@@ -99,3 +99,28 @@ line_pushed parts k old new line ok at mine name more = line_more parts k old ne
 
 pub line_not_pushed : (parts : List Part) (k : ℕ) (old new : Part) → AreParts parts → slice_get parts k ≡ Some old → new.of ≡ old.of → new.lines ≡ old.lines → AreParts (slice_set parts k new)
 line_not_pushed parts k old new ok at name same_lines = part_changed parts k old new ok at name (λ n l there. (opened parts ok).own k n old l at (ap (λ (xs : List Line). slice_get xs n) (sym same_lines) ∙ there))
+
+-- the part of an incarnation more, which has none
+pub part_begun : (parts : List Part) (u : UniqueAddress) → AreParts parts → has_part u parts ≡ false → AreParts (parts ++ begun u ∷ [])
+part_begun parts u ok none = part_more parts (begun u) ok none refl
+
+-- a line of the last part's incarnation more
+pub line_added : (parts : List Part) (line : Line) → AreParts parts → takes line parts ≡ true → AreParts (with_line line parts)
+line_added parts line ok mine = by (last_part parts) refl mine
+  where
+    by : (o : Option Part) → last_part parts ≡ o → last_is (of line) o ≡ true → AreParts (lined_at (length parts - 1) line parts o)
+    by None at own = ok
+    by (Some p) at own = line_more parts (length parts - 1) p (lined line p) line ok at refl refl own
+
+-- parts that take a line are some
+pub has_last : (line : Line) (parts : List Part) → takes line parts ≡ true → 0 < length parts
+has_last line [] h = absurd cc
+has_last line (p ∷ ps) h = omega arith
+
+-- and one is the last
+pub there_is_last : (line : Line) (parts : List Part) → takes line parts ≡ true → (p : Part) × (slice_get parts (length parts - 1) ≡ Some p)
+there_is_last line parts h = by (last_part parts) refl h
+  where
+    by : (o : Option Part) → last_part parts ≡ o → last_is (of line) o ≡ true → (p : Part) × (slice_get parts (length parts - 1) ≡ Some p)
+    by None at own = absurd cc
+    by (Some p) at own = (p, at)

@@ -6,3 +6,5 @@ pub mod Answering
 pub mod Building
 pub mod Turns
 pub mod Telling
+pub mod TwoConditions
+pub mod OneOutcome

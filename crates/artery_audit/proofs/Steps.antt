@@ -74,7 +74,7 @@ pub is_first : (before : List Line) (parts : List Part) (k : ℕ) (p : Part) (li
 is_first before parts k p line at some so_far = so_far ∙ first_of_rest before parts k p at ∙ ap (λ (o : Option Line). or_else o (first_fitting before (drop (k + 1) parts))) some
 
 -- what fits breaks no law
-allowed_is : (line x : Line) (o : Option Law) → (if is_some o then None else Some line) ≡ Some x → (o ≡ None) × (line ≡ x)
+pub allowed_is : (line x : Line) (o : Option Law) → (if is_some o then None else Some line) ≡ Some x → (o ≡ None) × (line ≡ x)
 allowed_is line x None h = (refl, some_is h)
 allowed_is line x (Some law) h = cc
 
@@ -85,7 +85,7 @@ fits_lawfully before p x h = by (slice_get p.lines (length (lines_by p.of before
     by None h = cc
     by (Some line) h = let a = allowed_is line x (law_after before line) h in subst (λ l. law_after before l ≡ None) a.1 a.0
 
-first_lawfully : (before : List Line) (parts : List Part) (x : Line) → first_fitting before parts ≡ Some x → law_after before x ≡ None
+pub first_lawfully : (before : List Line) (parts : List Part) (x : Line) → first_fitting before parts ≡ Some x → law_after before x ≡ None
 first_lawfully before [] x h = cc
 first_lawfully before (p ∷ ps) x h = by (first_lawfully before ps x) (fitting before p) refl h
   where
@@ -197,6 +197,31 @@ woken_ready (Some u) m = by (position (λ p. same p.of u) m.parts)
     by None = refl
     by (Some k) = refl
 
+-- ---- one line more of a part
+
+-- a part with the name of a line is that line's part
+named_by : (p : Part) (x : Line) → same p.of (of x) ≡ true → (v : UniqueAddress) → same v (of x) ≡ true → same v p.of ≡ true
+named_by p x own v h = alike_by v (of x) p.of h ∙ same_turned (of x) p.of ∙ own
+
+-- the next line of a part, behind first lines of each part
+pub front_more : (parts : List Part) (k : ℕ) (p : Part) (x : Line) (merge : List Line) → AreParts parts → slice_get parts k ≡ Some p → slice_get p.lines (length (lines_by p.of merge)) ≡ Some x → IsFront parts merge → IsFront parts (merge ++ x ∷ [])
+front_more parts k p x merge ok at next so_far v = by (same v (of x)) refl
+  where
+    own : same p.of (of x) ≡ true
+    own = (opened parts ok).own k (length (lines_by p.of merge)) p x at next
+
+    longer : (named : same v (of x) ≡ true) → IsPrefix (lines_by v merge) (part_of v parts) → IsPrefix (lines_by v merge ++ x ∷ []) (part_of v parts)
+    longer named (more, is) =
+        let n : ℕ = length (lines_by p.of merge) in
+        let mine : part_of v parts ≡ p.lines = own_part parts k p v ok at (named_by p x own v named) in
+        let same_length : length (lines_by v merge) ≡ n = ap length (by_alike v p.of merge (named_by p x own v named)) in
+        let front : lines_by v merge ≡ take n p.lines = sym (take_at (lines_by v merge) more n same_length) ∙ ap (take n) (is ∙ mine) in
+        (drop (suc n) p.lines, one_more (lines_by v merge) (drop (suc n) p.lines) x ∙ ap (λ (l : List Line). l ++ x ∷ drop (suc n) p.lines) front ∙ sym (is_front p.lines n x next) ∙ sym mine)
+
+    by : (b : Bool) → same v (of x) ≡ b → IsPrefix (lines_by v (merge ++ x ∷ [])) (part_of v parts)
+    by true named = subst (λ (l : List Line). IsPrefix l (part_of v parts)) (sym (by_more v merge x named)) (longer named (so_far v))
+    by false other = subst (λ (l : List Line). IsPrefix l (part_of v parts)) (sym (by_other v merge x other)) (so_far v)
+
 -- ---- a line taken
 
 length_more : {X : Type 0} (xs : List X) (x : X) → length (xs ++ x ∷ []) ≡ length xs + 1
@@ -230,22 +255,10 @@ takes_under old new k p x u at next first ready took = record {
 
     -- a part with the name of the line is this part
     by_name : (v : UniqueAddress) → same v (of x) ≡ true → same v p.of ≡ true
-    by_name v h = alike_by v (of x) p.of h ∙ same_turned (of x) p.of ∙ own
+    by_name v h = named_by p x own v h
 
     front : IsFront old.parts (old.merge ++ x ∷ [])
-    front v = by (same v (of x)) refl
-      where
-        longer : (named : same v (of x) ≡ true) → IsPrefix (lines_by v old.merge) (part_of v old.parts) → IsPrefix (lines_by v old.merge ++ x ∷ []) (part_of v old.parts)
-        longer named (more, is) =
-            let n : ℕ = length (lines_by p.of old.merge) in
-            let mine : part_of v old.parts ≡ p.lines = own_part old.parts k p v u.parts at (by_name v named) in
-            let same_length : length (lines_by v old.merge) ≡ n = ap length (by_alike v p.of old.merge (by_name v named)) in
-            let so_far : lines_by v old.merge ≡ take n p.lines = sym (take_at (lines_by v old.merge) more n same_length) ∙ ap (take n) (is ∙ mine) in
-            (drop (suc n) p.lines, one_more (lines_by v old.merge) (drop (suc n) p.lines) x ∙ ap (λ (l : List Line). l ++ x ∷ drop (suc n) p.lines) so_far ∙ sym (is_front p.lines n x next) ∙ sym mine)
-
-        by : (b : Bool) → same v (of x) ≡ b → IsPrefix (lines_by v (old.merge ++ x ∷ [])) (part_of v old.parts)
-        by true named = subst (λ (l : List Line). IsPrefix l (part_of v old.parts)) (sym (by_more v old.merge x named)) (longer named (u.front v))
-        by false other = subst (λ (l : List Line). IsPrefix l (part_of v old.parts)) (sym (by_other v old.merge x other)) (u.front v)
+    front = front_more old.parts k p x old.merge u.parts at next u.front
 
     -- another part is of another incarnation
     apart : (j : ℕ) (q : Part) → slice_get old.parts j ≡ Some q → (k ≡ j → ⊥) → same q.of (of x) ≡ false

@@ -15,7 +15,7 @@ use Rattle.artery_audit.proofs.Lines.{same_self, before_end}
 use Rattle.artery_audit.proofs.Steps.{own_part}
 
 -- a cut that uses up each part leaves none
-nothing_left : (cut : Cut) (parts : List Part) → ((k : ℕ) (p : Part) → slice_get parts k ≡ Some p → length p.lines ≤ cut p.of) → first_left cut parts ≡ None
+pub nothing_left : (cut : Cut) (parts : List Part) → ((k : ℕ) (p : Part) → slice_get parts k ≡ Some p → length p.lines ≤ cut p.of) → first_left cut parts ≡ None
 nothing_left cut [] all = refl
 nothing_left cut (p ∷ ps) all = by (slice_get p.lines (cut p.of)) refl (nothing_left cut ps (λ k q at. all (suc k) q at))
   where

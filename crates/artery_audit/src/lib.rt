@@ -12,6 +12,7 @@
 
 mod audited;
 mod auditing;
+mod deciding;
 mod laws;
 mod merge;
 mod merging;
@@ -20,6 +21,10 @@ mod says;
 
 pub use audited::Audited;
 pub use auditing::audit;
-pub use laws::answers_tell;
+pub use deciding::are_parts;
+pub use laws::{answers_tell, parts_are_built};
 pub use merge::Merge;
 pub use part::{Part, Parts};
+
+#[cfg(test)]
+mod tests;

@@ -1,9 +1,11 @@
 //! Parts: the journals of several incarnations.
-ghost use Rattle.std.specs.Prelude.{◌≡◌, [], ◌∷◌, ◌++◌, length, ◌==◌, OnOk, OnErr};
+ghost use Rattle.std.specs.Prelude.{◌≡◌, [], ◌∷◌, ◌++◌, length, ◌==◌, true, OnOk, OnErr};
 ghost use Rattle.artery_judge.specs.Lines.{same};
+ghost use Rattle.artery_audit.specs.Parts.{lined, with_line, takes};
 
+use crate::says::writer;
 use artery_base::{NoMemory, UniqueAddress};
-use artery_journal::Lines;
+use artery_journal::{Line, Lines};
 use std::alloc::Global;
 use std::marker::Model;
 
@@ -26,6 +28,14 @@ impl Part {
             return false;
         }
         self.of == *of
+    }
+
+    /// Adds a line at the end. Without memory nothing changes.
+    fn push(&mut self, line: Line) -> Result<(), NoMemory>
+        ensures { OnOk result (self.new ≡ lined line self.old) }
+    {
+        self.lines.push(line)?;
+        Ok(())
     }
 }
 
@@ -81,6 +91,28 @@ impl Parts {
         ensures err { OnErr result (self.new ≡ self.old) }
     {
         self.items.push(part)?;
+        Ok(())
+    }
+
+    /// Whether a line is of the last part's incarnation.
+    pub fn takes(&self, line: &Line) -> bool
+        ensures { result ≡ takes line.now self.now }
+    {
+        match self.items.last() {
+            Some(part) => part.is_of(writer(line)),
+            None => false,
+        }
+    }
+
+    /// Adds a line of the last part's incarnation at this part's end.
+    #[tactic(auto, using(crate::proofs::Building::has_last))]
+    pub fn push_line(&mut self, line: Line) -> Result<(), NoMemory>
+        requires { takes line self.old ≡ true }
+        ensures { OnOk result (self.new ≡ with_line line self.old) }
+    {
+        let last = self.items.len() - 1;
+        let part = &mut self.items[last];
+        part.push(line)?;
         Ok(())
     }
 }

@@ -6,7 +6,7 @@ use Rattle.artery_base.specs.Words.{IsPrefix}
 use Rattle.artery_io.specs.Written.{TakesFront}
 use Rattle.artery_cli.specs.declared.command.Command.{Command}
 use Rattle.artery_cli.specs.declared.command.Command.TheVariants.{Show, Whole}
-use Rattle.artery_cli.specs.declared.command.Task.TheVariants.{Replay, Make, CheckControl, CheckJournal}
+use Rattle.artery_cli.specs.declared.command.Task.TheVariants.{Replay, Make, CheckControl, CheckJournal, Audit}
 use Rattle.artery_cli.specs.Limits.{most_bytes}
 use Rattle.artery_cli.specs.declared.refusal.Refusal.TheVariants.{TooManyBytes}
 use Rattle.artery_cli.specs.Answers.{Answer, Answers, WritesLawfully, refusal_answer, stopped, played, script_answer, task_answer, answer_of, journal_of_script, journal_of, stop_line, script_fault_line, fault_line, memory_fault}
@@ -62,6 +62,7 @@ replays (Some Show) h = absurd cc
 replays (Some (Whole Make)) h = absurd cc
 replays (Some (Whole (CheckControl manifest))) h = absurd cc
 replays (Some (Whole CheckJournal)) h = absurd cc
+replays (Some (Whole (Audit merge))) h = absurd cc
 replays (Some (Whole Replay)) h = refl
 
 -- the prefix law of the journal of a text

@@ -7,3 +7,4 @@ pub mod ShownSoFar
 pub mod Faults
 pub mod Results
 pub mod FrameLines
+pub mod Merges

@@ -8,7 +8,7 @@ use Rattle.artery_capture.specs.Shown.{front_lines}
 use Rattle.artery_cli.specs.declared.command.Command.{Command}
 use Rattle.artery_cli.specs.declared.command.Command.TheVariants.{Show, Whole}
 use Rattle.artery_cli.specs.declared.command.Task.{Task}
-use Rattle.artery_cli.specs.declared.command.Task.TheVariants.{Replay, Make, CheckControl, CheckJournal}
+use Rattle.artery_cli.specs.declared.command.Task.TheVariants.{Replay, Make, CheckControl, CheckJournal, Audit}
 use Rattle.artery_cli.specs.declared.stop.Stop.{Stop}
 use Rattle.artery_cli.specs.declared.stop.Stop.TheVariants as stops
 use Rattle.artery_cli.specs.Limits.{most_bytes}
@@ -40,6 +40,7 @@ told_is_part (Some (Whole Replay)) seen text h = ([], nothing_is_front (journal_
 told_is_part (Some (Whole Make)) seen text h = refl
 told_is_part (Some (Whole (CheckControl manifest))) seen text h = refl
 told_is_part (Some (Whole CheckJournal)) seen text h = refl
+told_is_part (Some (Whole (Audit merge))) seen text h = refl
 
 -- a task has written nothing before its answer
 nothing_of_task : (task : Task) (text : List ℕ) → IsPart (Some (Whole task)) text []

@@ -1,5 +1,5 @@
 -- What a command writes, and its status.
-use Rattle.std.specs.Prelude.{◌≡◌, ℕ, ◌+◌, nat_lt, if◌then◌else◌, List, [], ◌∷◌, ◌++◌, length, take, codes, decimal, Option, None, Some, Result, Ok, Err}
+use Rattle.std.specs.Prelude.{◌≡◌, ℕ, ◌+◌, Bool, true, false, flat_map, nat_lt, if◌then◌else◌, List, [], ◌∷◌, ◌++◌, length, take, codes, decimal, Option, None, Some, Result, Ok, Err}
 use Rattle.std.specs.Result.{result_ok}
 use Rattle.std.specs.Io.KnownBytes.{Appends}
 use Rattle.artery_text.specs.Reading.{hex_of}
@@ -11,10 +11,10 @@ use Rattle.artery_making.specs.declared.fault.MakeFault.TheVariants as make_faul
 use Rattle.artery_cli.specs.declared.command.Command.{Command}
 use Rattle.artery_cli.specs.declared.command.Command.TheVariants.{Show, Whole}
 use Rattle.artery_cli.specs.declared.command.Task.{Task}
-use Rattle.artery_cli.specs.declared.command.Task.TheVariants.{Replay, Make, CheckControl, CheckJournal}
+use Rattle.artery_cli.specs.declared.command.Task.TheVariants.{Replay, Make, CheckControl, CheckJournal, Audit}
 use Rattle.artery_cli.specs.Limits.{most_bytes}
 use Rattle.artery_cli.specs.declared.refusal.Refusal.{Refusal}
-use Rattle.artery_cli.specs.declared.refusal.Refusal.TheVariants.{TooManyBytes, TooManyLines, BadLine}
+use Rattle.artery_cli.specs.declared.refusal.Refusal.TheVariants.{TooManyBytes, TooManyLines, TooManyParts, BadLine}
 use Rattle.artery_cli.specs.Command.{command_of}
 use Rattle.artery_control.specs.declared.control.Control.{Control}
 use Rattle.artery_control.specs.declared.fault.ControlFault.{ControlFault}
@@ -31,6 +31,14 @@ use Rattle.artery_judge.specs.declared.verdict.Law.TheVariants as laws
 use Rattle.artery_judge.specs.declared.verdict.Verdict.{Verdict}
 use Rattle.artery_judge.specs.declared.verdict.Verdict.TheVariants as verdicts
 use Rattle.artery_judge.specs.Laws.{verdict, lines_of as entries}
+use Rattle.artery_text.specs.Spelling.{unique_text}
+use Rattle.artery_journal.specs.declared.line.Line.{Line as JournalLine}
+use Rattle.artery_journal.specs.Texts.{line_text}
+use Rattle.artery_audit.specs.declared.part.Part.{Part}
+use Rattle.artery_audit.specs.Outcome.{StuckAt, outcome}
+use Rattle.artery_parts_reading.specs.declared.fault.PartsFault.{PartsFault}
+use Rattle.artery_parts_reading.specs.declared.fault.PartsFault.TheVariants as parts_faults
+use Rattle.artery_parts_reading.specs.Parts.{parts_of}
 use Rattle.artery_early.specs.declared.script.ScriptFault.{ScriptFault}
 use Rattle.artery_early.specs.declared.script.ScriptFault.TheVariants as script_faults
 use Rattle.artery_early.specs.declared.script.ScriptLine.{ScriptLine}
@@ -74,10 +82,11 @@ memory_answer = record { written = memory_fault; status = 9 }
 
 -- ---- input that is refused before it is done
 
--- an input that is too long is told with status 6, and a line that says nothing with its number and status 2
+-- an input that is too long is told with status 6, as are too many parts, and a line that says nothing with its number and status 2
 abbrev pub refusal_answer : Refusal → Answer
 refusal_answer TooManyBytes = record { written = codes "fault limit bytes\n"; status = 6 }
 refusal_answer TooManyLines = record { written = codes "fault limit lines\n"; status = 6 }
+refusal_answer TooManyParts = record { written = codes "fault limit parts\n"; status = 6 }
 refusal_answer (BadLine line) = record { written = codes "fault line " ++ decimal line ++ codes "\n"; status = 2 }
 
 -- ---- replay
@@ -217,6 +226,39 @@ journal_answer (Err (journal_faults.BadLine line)) = refusal_answer (BadLine lin
 journal_answer (Err journal_faults.TooManyLines) = refusal_answer TooManyLines
 journal_answer (Err journal_faults.NoMemory) = memory_answer
 
+-- ---- audit
+
+-- the word for the law at which a part is stuck; none is for no law, and a part that is stuck breaks one
+abbrev pub broken_word : Option Law → List ℕ
+broken_word None = []
+broken_word (Some law) = law_word law
+
+-- the line that tells at which line of its own a part is stuck, and the first law that this line breaks
+abbrev pub stuck_text : StuckAt → List ℕ
+stuck_text stuck = codes "fault audit " ++ unique_text stuck.of ++ codes " " ++ decimal stuck.number ++ codes " " ++ broken_word stuck.law ++ codes "\n"
+
+-- a line of a journal with its line feed
+unfoldable pub ended_line : JournalLine → List ℕ
+ended_line line = line_text line ++ codes "\n"
+
+-- the lines of journals, one after the other
+abbrev pub lines_text : List JournalLine → List ℕ
+lines_text lines = flat_map ended_line lines
+
+-- parts that fit together: told so, or with `--merge` by the lines of their merge; else with status 1 the part that is stuck
+abbrev pub audited_answer : Bool → Result (List JournalLine) StuckAt → Answer
+audited_answer false (Ok lines) = record { written = codes "lawful\n"; status = 0 }
+audited_answer true (Ok lines) = record { written = lines_text lines; status = 0 }
+audited_answer merge (Err stuck) = record { written = stuck_text stuck; status = 1 }
+
+-- parts that are read are audited; else it is told that the lines are too many, which is the first bad one, or that the parts are too many
+abbrev pub parts_answer : Bool → Result (List Part) PartsFault → Answer
+parts_answer merge (Ok parts) = audited_answer merge (outcome parts)
+parts_answer merge (Err (parts_faults.BadLine line)) = refusal_answer (BadLine line)
+parts_answer merge (Err parts_faults.TooManyLines) = refusal_answer TooManyLines
+parts_answer merge (Err parts_faults.TooManyParts) = refusal_answer TooManyParts
+parts_answer merge (Err parts_faults.NoMemory) = memory_answer
+
 -- ---- show
 
 -- the lines of all bytes: the last one tells what is left, or with status 1 the fault of the stream
@@ -239,6 +281,7 @@ text_answer Replay text = script_answer (script_of text)
 text_answer Make text = made_answer (stream_made text)
 text_answer (CheckControl manifest) text = check_answer manifest (payload_of text)
 text_answer CheckJournal text = journal_answer (journal_told text)
+text_answer (Audit merge) text = parts_answer merge (parts_of text)
 
 -- an input of more than 67,108,864 bytes is refused
 abbrev pub task_answer : Task → List ℕ → Answer

@@ -7,7 +7,7 @@ use Rattle.artery_capture.specs.Shown.{front_lines}
 use Rattle.artery_cli.specs.declared.command.Command.{Command}
 use Rattle.artery_cli.specs.declared.command.Command.TheVariants.{Show, Whole}
 use Rattle.artery_cli.specs.declared.command.Task.{Task}
-use Rattle.artery_cli.specs.declared.command.Task.TheVariants.{Replay, Make, CheckControl, CheckJournal}
+use Rattle.artery_cli.specs.declared.command.Task.TheVariants.{Replay, Make, CheckControl, CheckJournal, Audit}
 use Rattle.artery_cli.specs.declared.stop.Stop.{Stop}
 use Rattle.artery_cli.specs.declared.stop.Stop.TheVariants as stops
 use Rattle.artery_cli.specs.Answers.{answer_of, journal_of, fault_line, memory_fault, read_fault}
@@ -33,6 +33,7 @@ IsTaskPart Replay text part = (lines : List Line) × IsPrefix lines (journal_of 
 IsTaskPart Make text part = part ≡ []
 IsTaskPart (CheckControl manifest) text part = part ≡ []
 IsTaskPart CheckJournal text part = part ≡ []
+IsTaskPart (Audit merge) text part = part ≡ []
 
 -- a part of a command's answer by whole lines: of `show` the lines of the whole frames of some first bytes
 abbrev pub IsPart : Option Command → List ℕ → List ℕ → Type 0

@@ -1,5 +1,5 @@
 ghost use Rattle.std.specs.Prelude.{◌≡◌, IfOk};
-ghost use Rattle.artery_cli.specs.Command.{command_named, check_alone, check_named, command_of};
+ghost use Rattle.artery_cli.specs.Command.{command_named, check_alone, audit_with, pair_named, check_named, command_of};
 
 use artery_base::{Bytes, NoMemory, Text};
 use artery_text::{WordFault, read_word};
@@ -16,6 +16,8 @@ pub enum Task {
     CheckControl { manifest: Bytes },
     /// A journal is judged (`check journal`).
     CheckJournal,
+    /// The journals of several incarnations are audited (`audit`), and the lawful merge written (`audit --merge`).
+    Audit { merge: bool },
 }
 
 /// What the words of a call ask for.
@@ -40,6 +42,9 @@ fn command_named(word: &[u8]) -> Option<Command>
     if word == b"replay".as_slice() {
         return Some(Command::Whole(Task::Replay));
     }
+    if word == b"audit".as_slice() {
+        return Some(Command::Whole(Task::Audit { merge: false }));
+    }
     None
 }
 
@@ -54,6 +59,29 @@ fn check_alone(word: &[u8], what: &[u8]) -> Option<Command>
         return None;
     }
     Some(Command::Whole(Task::CheckJournal))
+}
+
+/// `audit --merge`.
+fn audit_with(word: &[u8], option: &[u8]) -> Option<Command>
+    ensures { result ≡ audit_with word.now option.now }
+{
+    if word != b"audit".as_slice() {
+        return None;
+    }
+    if option != b"--merge".as_slice() {
+        return None;
+    }
+    Some(Command::Whole(Task::Audit { merge: true }))
+}
+
+/// The command of two words.
+fn pair_named(word: &[u8], what: &[u8]) -> Option<Command>
+    ensures { result ≡ pair_named word.now what.now }
+{
+    match check_alone(word, what) {
+        Some(command) => Some(command),
+        None => audit_with(word, what),
+    }
 }
 
 /// `check control` with a manifest.
@@ -84,7 +112,7 @@ pub fn command_of(alloc: Global, words: &[Text]) -> Result<Option<Command>, NoMe
 {
     match words {
         [word] => Ok(command_named(word.as_slice())),
-        [word, what] => Ok(check_alone(word.as_slice(), what.as_slice())),
+        [word, what] => Ok(pair_named(word.as_slice(), what.as_slice())),
         [word, what, manifest] => check_named(
             alloc,
             word.as_slice(),

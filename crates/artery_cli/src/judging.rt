@@ -16,7 +16,7 @@ use artery_text::print_number;
 use std::alloc::Global;
 
 /// The word for a law.
-fn law_word(law: Law) -> &'static [u8]
+pub(crate) fn law_word(law: Law) -> &'static [u8]
     ensures { result.now ≡ law_word law }
 {
     match law {

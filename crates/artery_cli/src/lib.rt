@@ -6,6 +6,7 @@
 //! change them, and then what was written is a stated part of it.
 #![tactic(auto)]
 
+mod auditing;
 mod checking;
 mod command;
 mod fault_text;
@@ -28,6 +29,8 @@ pub use laws::frames_are_read_again;
 pub use refusal::Refusal;
 pub use top::run;
 
+#[cfg(test)]
+mod audit_tests;
 #[cfg(test)]
 mod journal_tests;
 #[cfg(test)]

@@ -14,6 +14,8 @@ pub enum Refusal {
     TooManyBytes,
     /// There are more than 1,000,000 lines.
     TooManyLines,
+    /// There are more than 64 parts of an audit.
+    TooManyParts,
     /// The first line that tells nothing, is missing or is too many, counted from 1.
     BadLine { line: u64 },
 }
@@ -25,6 +27,7 @@ pub fn refuse<K: Sink>(alloc: Global, refusal: Refusal, output: &mut K) -> Resul
     match refusal {
         Refusal::TooManyBytes => tell(output, b"fault limit bytes\n", 6),
         Refusal::TooManyLines => tell(output, b"fault limit lines\n", 6),
+        Refusal::TooManyParts => tell(output, b"fault limit parts\n", 6),
         Refusal::BadLine { line } => {
             let text = bad_line(alloc, line)?;
             tell(output, text.as_slice(), 2)

@@ -7,6 +7,7 @@ ghost use Rattle.artery_cli.specs.declared.command.Command.TheVariants.{Whole};
 ghost use Rattle.artery_cli.specs.Limits.{most_bytes};
 ghost use Rattle.artery_cli.specs.declared.stop.Stop.TheVariants as stops;
 
+use crate::auditing::audit_text;
 use crate::checking::check_text;
 use crate::command::Task;
 use crate::input::{Gathered, gather};
@@ -34,6 +35,7 @@ fn answer_text<K: Sink>(alloc: Global, task: &Task, text: &[u8], output: &mut K)
         Task::Make => make_text(alloc, text, output),
         Task::CheckControl { manifest } => check_text(alloc, manifest.as_slice(), text, output),
         Task::CheckJournal => judge_text(alloc, text, output),
+        Task::Audit { merge } => audit_text(alloc, *merge, text, output),
     }
 }
 

@@ -100,14 +100,19 @@ fn finish<K: Sink>(output: &mut K, text: &[u8], status: u8) -> u8
 /// - `check journal` reads a journal of either form and tells `lawful`, or with status 1
 ///   `fault journal K LAW`, K being the first line of the text that breaks a law and LAW the first
 ///   such law.
+/// - `audit` reads the journals of several incarnations, each behind a line `of U`, and tells `lawful` where
+///   some merge of them is lawful, or with `--merge` writes the lines of the one that takes each next line
+///   from the first part that can go on. Else it tells with status 1 `fault audit U K LAW`: U is the first
+///   part that no lawful merge uses up, K its first line that none reaches, LAW the first law that it breaks.
 /// - `replay` reads a script and writes the journal of its events in order; where an event does not
 ///   happen, `fault line K ..` follows, K being its line.
 ///
 /// The status is 0 where all was done; 1 as said; 2 for other words (`fault words`) and for an input
-/// with a line that tells nothing, is missing or is too many (`fault line K`); 3 only where the
-/// source failed (`fault read`); 4 only where the sink failed; 5 where an event of a script is not
-/// allowed; 6 for more than 67,108,864 bytes (`fault limit bytes`), for more than 1,000,000 lines
-/// (`fault limit lines`; `show` counts none) and at a limit of the world; 9 where memory ran out
+/// with a line that tells nothing, is missing, is too many or, in an audit, is of no part or begins a
+/// part again (`fault line K`); 3 only where the source failed (`fault read`); 4 only where the sink
+/// failed; 5 where an event of a script is not allowed; 6 for more than 67,108,864 bytes
+/// (`fault limit bytes`), for more than 1,000,000 lines (`fault limit lines`; `show` counts none), for
+/// more than 64 parts (`fault limit parts`) and at a limit of the world; 9 where memory ran out
 /// (`fault memory`).
 ///
 /// What stands before the last line of status 3: of `show` the lines of the whole frames that were
