@@ -7,6 +7,7 @@
 
 mod asking;
 mod closing;
+mod coming;
 mod copies;
 mod deeds;
 mod finding;

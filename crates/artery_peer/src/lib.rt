@@ -3,6 +3,7 @@
 //! Each call changes such a value, or reads it, exactly as the definition of the machine with that name says.
 #![tactic(auto)]
 
+mod coming;
 mod connection;
 mod inbound;
 mod origin;
