@@ -1,5 +1,5 @@
 //! A node.
-ghost use Rattle.std.specs.Prelude.{◌≡◌, ◌<◌, ◌≤◌, ◌^◌, ◌++◌, ◌∷◌, [], length, true, false, OnOk, OnErr, IfOk, IsErr, sem};
+ghost use Rattle.std.specs.Prelude.{◌≡◌, ◌<◌, ◌≤◌, ◌^◌, ◌++◌, ◌∷◌, [], length, true, false, OnOk, OnErr, IfOk, IsErr};
 ghost use Rattle.artery_journal.specs.declared.line.Line.TheVariants.{Started};
 ghost use Rattle.artery_machine.specs.declared.effect.Effect.TheVariants as effects;
 ghost use Rattle.artery_machine.specs.Deeds.{effects_of};

@@ -1,5 +1,5 @@
 //! Connections that come in, their bytes, and what was done so far.
-ghost use Rattle.std.specs.Prelude.{◌≡◌, ◌<◌, ◌≤◌, ◌++◌, [], ◌∷◌, filter, not, false, position, length, IfSome, OnOk, OnErr, option_map};
+ghost use Rattle.std.specs.Prelude.{◌≡◌, ◌<◌, ◌≤◌, ◌++◌, [], ◌∷◌, filter, not, false, position, length, IfSome, IfNone, OnOk, OnErr, option_map};
 ghost use Rattle.artery_frame.specs.Kept.{nothing_kept};
 ghost use Rattle.artery_machine.specs.Parts.{kept};
 ghost use Rattle.artery_machine.specs.Node.{inbound_at, is_number, put_inbound, accepted_as};
@@ -85,6 +85,7 @@ impl Work {
     pub fn takes_bytes(&mut self, number: u64) -> Option<Deframer>
         ensures bytes { result ≡ option_map (λ i. i.bytes) (inbound_at number self.old.node) }
         ensures work { self.new ≡ inbound_becomes number (with_bytes (nothing_kept false)) self.old }
+        ensures none { IfNone result (self.new ≡ self.old) }
     {
         let alloc = self.alloc;
         let at = self.place_of_inbound(number)?;

@@ -1,4 +1,4 @@
-use Rattle.std.proofs.Common.{◌≡◌, ℕ, ◌+◌, List, sym, ◌∙◌, cc, absurd}
+use Rattle.std.proofs.Common.{◌≡◌, ℕ, ◌+◌, List, sym, ◌∙◌}
 use Rattle.artery_frame.specs.Kept.{kept_answer, kept_given}
 use Rattle.artery_machine.specs.Parts.{kept, answers, frames_given, frames_gone}
 use Rattle.artery_machine.specs.Doing.{in_bytes, each}
