@@ -60,6 +60,7 @@ fn reacts(work: &mut Work, input: Input) -> Result<(), NoMemory>
 }
 
 /// The node does what is to be done at an input, and what it did comes behind these effects.
+#[tactic(auto, using(crate::proofs::Told::same_node, crate::proofs::Told::own_effects))]
 fn reacts_and_tells(
     work: &mut Work,
     input: Input,
@@ -73,8 +74,10 @@ fn reacts_and_tells(
     ensures err { OnErr result (effects.new.items ≡ effects.old.items) }
 {
     deeds_have_their_bytes();
+    work.writes_as_itself();
     reacts(work, input)?;
-    work.hand_out(effects)
+    work.hand_out(effects)?;
+    Ok(())
 }
 
 impl Node {
@@ -106,6 +109,7 @@ impl Node {
     ///
     /// `NoMemory` comes where memory runs out, or a frame that would be written had more than 262,144 bytes or a name more than 65,535. The
     /// effects stay as they are then, and the node has stopped: each later call answers `NoMemory` and changes nothing.
+    #[tactic(auto, using(crate::proofs::Told::does_as_whole))]
     pub fn react(&mut self, input: Input, effects: &mut Vec<Effect>) -> Result<(), NoMemory>
         requires { IsFit self.old.node input }
         ensures node { OnOk result (self.new ≡ record { node = (step input self.old.node).node; stopped = false }) }
@@ -119,12 +123,14 @@ impl Node {
         if self.stopped {
             return Err(NoMemory);
         }
-        let reacted = reacts_and_tells(&mut self.work, input, effects);
-        if reacted.is_err() {
-            self.work.forget_effects();
-            self.stopped = true;
+        match reacts_and_tells(&mut self.work, input, effects) {
+            Ok(()) => Ok(()),
+            Err(NoMemory) => {
+                self.work.forget_effects();
+                self.stopped = true;
+                Err(NoMemory)
+            }
         }
-        reacted
     }
 
     /// The unique address that the node was started with.
