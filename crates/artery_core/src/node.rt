@@ -60,7 +60,6 @@ fn reacts(work: &mut Work, input: Input) -> Result<(), NoMemory>
 }
 
 /// The node does what is to be done at an input, and what it did comes behind these effects.
-#[tactic(auto, using(crate::proofs::Told::same_node, crate::proofs::Told::own_effects))]
 fn reacts_and_tells(
     work: &mut Work,
     input: Input,
@@ -109,7 +108,6 @@ impl Node {
     ///
     /// `NoMemory` comes where memory runs out, or a frame that would be written had more than 262,144 bytes or a name more than 65,535. The
     /// effects stay as they are then, and the node has stopped: each later call answers `NoMemory` and changes nothing.
-    #[tactic(auto, using(crate::proofs::Told::does_as_whole))]
     pub fn react(&mut self, input: Input, effects: &mut Vec<Effect>) -> Result<(), NoMemory>
         requires { IsFit self.old.node input }
         ensures node { OnOk result (self.new ≡ record { node = (step input self.old.node).node; stopped = false }) }
