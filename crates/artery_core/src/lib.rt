@@ -12,3 +12,6 @@ mod node;
 mod requests;
 
 pub use node::Node;
+
+#[cfg(test)]
+mod tests;
