@@ -48,6 +48,7 @@ fn message(alloc: Global) -> Result<SysMsg, NoMemory> {
 }
 
 /// A node, what it did so far as lines of text, and the bytes that it wrote last.
+#[derive(Drop)]
 struct Play {
     alloc: Global,
     node: Node,
@@ -245,16 +246,16 @@ fn wrote_nack(play: &Play) -> Result<bool, NoMemory> {
 const MET: &[u8] = b"akka://B@h:1#2 started
 dial 1
 write 1 5
-write 1 81
-write 1 64
+write 1 77
+write 1 63
 akka://B@h:1#2 learnt akka://A@h:1#1
 dial 2
 ";
 
 const GAP: &[u8] = b"akka://B@h:1#2 took akka://A@h:1#1 1 5 x 0102
-write 1 62
+write 1 61
 akka://B@h:1#2 gap akka://A@h:1#1 3
-write 1 62
+write 1 61
 ";
 
 fn tells_a_gap(alloc: Global) -> Result<bool, NoMemory> {
@@ -286,8 +287,8 @@ fn meets_a_liar(alloc: Global) -> Result<bool, NoMemory> {
 const PLAIN: &[u8] = b"akka://B@h:1#2 started
 dial 1
 write 1 5
-write 1 81
-write 1 46
+write 1 77
+write 1 59
 akka://B@h:1#2 learnt akka://A@h:1#1
 dial 2
 ";
@@ -431,7 +432,7 @@ fn a_node_keeps_its_limits(rt: HostRuntime) -> Result<(), Fail> {
 // ---- moments
 
 const SILENT: &[u8] = b"akka://B@h:1#2 sent akka://A@h:1#1 1 5 x 0102
-write 1 71
+write 1 70
 ";
 
 /// A message that is not acknowledged is written again after a second, and its incarnation is closed after six hours.
@@ -442,13 +443,13 @@ fn waits_for_an_answer(alloc: Global) -> Result<bool, NoMemory> {
     ticks(&mut play, 999)?;
     let early = did_last(&play, SILENT);
     ticks(&mut play, 1_000)?;
-    let again = did_last(&play, b"0102\nwrite 1 71\nwrite 1 71\n");
+    let again = did_last(&play, b"0102\nwrite 1 70\nwrite 1 70\n");
     ticks(&mut play, 21_600_000)?;
     Ok(
         sent && early && again && !play.node.owes()
             && did_last(
                 &play,
-                b"\nakka://B@h:1#2 closed akka://A@h:1#1 undelivered\nwrite 1 82\nhang 2\n",
+                b"\nakka://B@h:1#2 closed akka://A@h:1#1 undelivered\nwrite 1 79\nhang 2\n",
             ),
     )
 }
