@@ -2,3 +2,4 @@ pub mod Lines
 pub mod Laws
 pub mod Kept
 pub mod Views
+pub mod Keys

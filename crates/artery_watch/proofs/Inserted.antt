@@ -1,5 +1,5 @@
 -- What the maps' own words say of watches, actors and remote watches.
-use Rattle.std.proofs.Common.{◌≡◌, ℕ, ◌+◌, ◌≤◌, ◌<◌, Bool, true, false, cond, List, [], ◌∷◌, ◌++◌, length, refl, ap, sym, ◌∙◌, subst, true≢false, arith, ◌-◌, length-append}
+use Rattle.std.proofs.Common.{◌≡◌, ℕ, ◌+◌, ◌≤◌, ◌<◌, Bool, true, false, List, [], ◌∷◌, ◌++◌, length, refl, ap, sym, ◌∙◌, true≢false, arith, ◌-◌, length-append}
 use Rattle.artery_base.specs.declared.address.Address.{Address}
 use Rattle.std.specs.Prelude.{map, filter, Option, Some, None, is_some, unwrap_or, ◌||◌, if◌then◌else◌, nat_le}
 use Rattle.std.specs.List.{list_any}
@@ -12,14 +12,11 @@ use Rattle.indexmap.specs.IndexMap.{insert_entry}
 use Rattle.artery_watch.specs.contracts.pair.PairPartialEq.TheImpl as pair_eq
 use Rattle.artery_watch.specs.declared.pair.Pair.{Pair}
 use Rattle.artery_watch.specs.declared.remote.RemoteWatcher.{RemoteWatcher}
-use Rattle.artery_watch.specs.declared.answers.Watch.{Watch}
-use Rattle.artery_watch.specs.declared.answers.Watch.TheVariants.{Watching, Already, Full as WatchFull}
-use Rattle.artery_watch.specs.declared.answers.Spawn.{Spawn}
+use Rattle.artery_watch.specs.declared.answers.Watch.TheVariants.{Watching}
 use Rattle.artery_watch.specs.declared.answers.Spawn.TheVariants.{Spawned, Exists, Full as SpawnFull}
-use Rattle.artery_watch.specs.declared.answers.RemoteWatch.{RemoteWatch}
-use Rattle.artery_watch.specs.declared.answers.RemoteWatch.TheVariants.{Added, There, NotThere, Full as RemoteFull}
+use Rattle.artery_watch.specs.declared.answers.RemoteWatch.TheVariants.{Added, There, Full as RemoteFull}
 use Rattle.artery_watch.specs.Keys.{same_text, same_pair, same_remote}
-use Rattle.artery_watch.specs.Watcher.{Watches, Actors, ids_at, watches_one_at, id_of, is_full, watching, watching_by, watched_by, watched, watchers_of, watchers_at, with_watchers, spawning, spawned, spawned_by, stopped, remote_count, is_among, remote_watching, remote_watching_by, remote_watched, remote_watched_by, remote_unwatching, remote_unwatched, most_remote, most_actors}
+use Rattle.artery_watch.specs.Watcher.{Watches, Actors, ids_at, watches_one_at, id_of, watching, watching_by, watched, watchers_of, watchers_at, spawning, spawned, remote_count, is_among, remote_watching, remote_watching_by, remote_watched, remote_watched_by, remote_unwatching, remote_unwatched, most_remote, most_actors}
 
 module _ {K V : Type 0} (eq : K → K → Bool) where
   pub inserted_last : (k : K) (v : V) (es : List (K × V)) → is_some (lookup (eq k) es) ≡ false → insert_entry eq es k v ≡ es ++ (k, v) ∷ []

@@ -1,7 +1,11 @@
 pub mod Appending
 pub mod Forgotten
 pub mod Inserted
+pub mod Leaving
 pub mod Notices
+pub mod Order
 pub mod Places
+pub mod Rising
+pub mod Sorting
 pub mod Stood
 pub mod Stories

@@ -1,12 +1,11 @@
 -- A front in two parts, and what it is to be at an address.
 use Rattle.std.proofs.Common.{◌≡◌, ℕ, Bool, true, false, nat_eq, List, [], ◌∷◌, ◌++◌, length, take, drop, refl, ap, sym, ◌∙◌, subst, true≢false}
 use Rattle.std.specs.Prelude.{Option, Some, None, ◌&&◌, if◌then◌else◌, IsTrue}
-use Rattle.std.specs.List.{starts_with}
 use Rattle.std.specs.Cmp.Lexicographic.{pointwise}
 use Rattle.std.proofs.lemmas.Bool.Decides.{Decides-eqb}
 use Rattle.artery_base.specs.declared.address.Address.{Address}
 use Rattle.artery_text.specs.Spelling.{address_text}
-use Rattle.artery_watch.specs.Place.{is_path, after, is_found_path, is_at, IsAt}
+use Rattle.artery_watch.specs.Place.{after, is_found_path, is_at, IsAt}
 
 -- what stands behind a second front, if there was a first one
 abbrev pub behind : List ℕ → Option (List ℕ) → Option (List ℕ)

@@ -1,15 +1,14 @@
 -- Ids over any list of calls.
-use Rattle.std.proofs.Common.{◌≡◌, ℕ, ◌+◌, ◌<◌, ◌≤◌, zero, suc, Bool, true, false, List, [], ◌∷◌, ◌++◌, refl, ap, sym, ◌∙◌, subst, true≢false, arith, append_assoc}
-use Rattle.std.specs.Prelude.{Option, Some, None, not, ◌&&◌, ◌||◌, ◌==◌, nat_lt, nat_le, map, filter, length, if◌then◌else◌}
+use Rattle.std.proofs.Common.{◌≡◌, ℕ, ◌+◌, ◌<◌, ◌≤◌, zero, suc, Bool, true, false, List, [], ◌∷◌, ◌++◌, refl, ap, sym, ◌∙◌, subst, arith, append_assoc}
+use Rattle.std.specs.Prelude.{Option, Some, None, not, ◌&&◌, ◌==◌, nat_lt, nat_le, map, filter, if◌then◌else◌}
 use Rattle.std.specs.Map.{lookup, remove_entry}
 use Rattle.std.proofs.lemmas.Bool.Decides.{nat_tests}
 use Rattle.std.proofs.lemmas.List.{map-append}
-use Rattle.artery_base.specs.declared.address.Address.{Address}
 use Rattle.artery_watch.specs.declared.pair.Pair.{Pair}
 use Rattle.artery_watch.specs.declared.answers.Watch.{Watch}
 use Rattle.artery_watch.specs.declared.answers.Watch.TheVariants.{Watching, Already, Full}
 use Rattle.artery_watch.specs.Keys.{same_pair}
-use Rattle.artery_watch.specs.Watcher.{Watches, Kept, nothing_kept, id_of, is_full, ids_at, watching, watching_by, watched, watched_by, watches_one_at}
+use Rattle.artery_watch.specs.Watcher.{Watches, Kept, nothing_kept, id_of, is_full, ids_at, watching, watching_by, watched_by, watches_one_at}
 use Rattle.artery_watch.specs.Story.{Call, watches, unwatches, hears_of_end, closes, spawns, stops, watches_from_elsewhere, unwatches_from_elsewhere, forgets, called, after, Told, gives, ends, given_by, ended_by, told_by, told_from, story, times_given, times_ended, times_in, IsLawfulAfter, IsLawful, IsAscendingAbove, ids_of, once_up_to}
 
 -- the ids in a list of watches

@@ -1,168 +1,256 @@
 //! The remote watches of one actor.
-ghost use Rattle.std.specs.Prelude.{◌≡◌, ◌+◌, [], ◌∷◌, ◌++◌, is_some, length, map, filter, true, false, not, ◌&&◌, OnOk, OnErr, IfOk};
-ghost use Rattle.std.specs.Map.{lookup};
+ghost use Rattle.std.specs.Prelude.{◌≡◌, ◌+◌, ◌<◌, ◌≤◌, ℕ, Option, Some, None, [], ◌∷◌, ◌++◌, is_some, length, drop, map, filter, slice_get, true, false, OnOk, OnErr, IfOk, IfSome};
+ghost use Rattle.std.specs.BTreeMap.{insert_entry};
+ghost use Rattle.std.specs.Map.{remove_entry};
+ghost use Rattle.std.specs.Ordering.{nat_cmp};
 ghost use Rattle.std.specs.Set.{remove_key};
+ghost use Rattle.indexmap.specs.Layout.{set_value_at};
+ghost use Rattle.artery_watch.specs.declared.remote.RemoteWatcher.{RemoteWatcher as RemoteWatcherValue};
 ghost use Rattle.artery_watch.specs.Keys.{same_remote, same_origin, remote_of};
-ghost use Rattle.artery_watch.specs.Standing.{standing};
+ghost use Rattle.artery_watch.specs.Standing.{in_order, standing, IsWithin, Rises, left, left_of, one_of, count, watchers_by, listed, by_place, IsRising};
 ghost use Rattle.artery_watch.specs.Watcher.{is_among, not_from};
 
 use crate::remote::{RemoteRef, RemoteWatcher};
-use artery_base::{Address, Names, NoMemory, Text, UniqueAddress};
+use artery_base::{Names, NoMemory, Text, UniqueAddress};
 use indexmap::IndexMap;
 use std::alloc::Global;
+use std::collections::BTreeMap;
 use std::marker::Model;
 
 /// The remote watches of one actor, in the order added.
 ///
-/// Each has a place and whether it stands; how many stand is counted. One that is removed keeps its place as one that does not stand, so that
-/// none has to move up; where it is added again, a filler takes the old place. All places of such as do not stand are given up together: once
-/// they are more than half of all, and where an origin is forgotten.
+/// Each has a place, and a number while it stands; how many stand is counted. One that is added gets the next number, so that the numbers
+/// give the order. One that is removed keeps its place without a number, and gets a new number there where it is added again. All places
+/// without a number are given up together, once they are more than half of all.
 #[derive(Drop)]
 pub struct Remotes {
-    places: IndexMap<RemoteWatcher, bool>,
+    places: IndexMap<RemoteWatcher, Option<u64>>,
     stand: usize,
-    fillers: u64,
+    added: u64,
 }
 
 impl Model for Remotes {
     ghost use Rattle.std.specs.Prelude.{◌≡◌, List, length};
-    ghost use Rattle.artery_watch.specs.Standing.{standing};
+    ghost use Rattle.artery_watch.specs.Standing.{in_order, standing, IsWithin};
     ghost use Rattle.artery_watch.specs.declared.remote.RemoteWatcher.{RemoteWatcher};
 
     ghost Value = { List RemoteWatcher };
 
     ghost view = { λ r. standing r.places.entries };
 
-    ghost invariant = { λ r. r.stand ≡ length (standing r.places.entries) };
+    ghost invariant = { λ r. (r.stand ≡ length (standing r.places.entries)) × IsWithin 0 r.added (in_order r.places.entries) };
 }
 
 /// Whether a remote watch stands.
 #[tactic(auto, using(crate::proofs::Stood::stands_is, crate::proofs::Stood::none_stands))]
-fn stands(places: &IndexMap<RemoteWatcher, bool>, watcher: &Text, origin: &UniqueAddress) -> bool
+fn stands(
+    places: &IndexMap<RemoteWatcher, Option<u64>>,
+    watcher: &Text,
+    origin: &UniqueAddress,
+) -> bool
     ensures { result ≡ is_among (remote_of watcher.now origin.now) (standing places.now.entries) }
 {
     // The length is what says that the keys differ.
     let _len = places.len();
     match places.get(RemoteRef { watcher, origin }) {
-        Some(stands) => *stands,
+        Some(number) => number.is_some(),
         None => false,
     }
 }
 
+/// Gives up the places of those that do not stand, once they are more than half of all.
+#[tactic(auto, using(crate::proofs::Stood::kept_after))]
+fn tidy(places: &mut IndexMap<RemoteWatcher, Option<u64>>, stand: usize)
+    ensures { in_order places.new.entries ≡ in_order places.old.entries }
+{
+    if places.len().saturating_sub(stand) > places.len() / 2 {
+        keep_standing(places);
+    }
+}
+
 /// Keeps the places of those that stand.
-fn keep_standing(places: &mut IndexMap<RemoteWatcher, bool>)
-    ensures { places.new.entries ≡ filter (λ place. place.1) places.old.entries }
+fn keep_standing(places: &mut IndexMap<RemoteWatcher, Option<u64>>)
+    ensures { places.new.entries ≡ filter (λ place. is_some place.1) places.old.entries }
 {
     places.retain(
-        |_remote: &RemoteWatcher, stands: &mut bool| -> bool
-            ensures { (result ≡ stands.old) × (stands.new ≡ stands.old) }
-        { *stands },
+        |_remote: &RemoteWatcher, number: &mut Option<u64>| -> bool
+            ensures { (result ≡ is_some number.old) × (number.new ≡ number.old) }
+        { number.is_some() },
     );
 }
 
-/// Gives up the places of those that do not stand.
-#[tactic(auto, using(crate::proofs::Stood::kept_standing, crate::proofs::Stood::kept_keys))]
-fn tidy(places: &mut IndexMap<RemoteWatcher, bool>)
-    ensures same { standing places.new.entries ≡ standing places.old.entries }
-    ensures all { map (λ place. place.0) places.new.entries ≡ standing places.old.entries }
+/// Whether two origins are the same. Their UIDs, which tell most apart, are compared first.
+#[tactic(auto, using(crate::proofs::Leaving::both_ways))]
+fn is_same(a: &UniqueAddress, b: &UniqueAddress) -> bool
+    ensures { result ≡ same_origin a.now b.now }
 {
-    keep_standing(places);
+    a.uid == b.uid && a.address == b.address
 }
 
-/// Keeps the places of those that stand and came from other origins.
-fn keep_others(places: &mut IndexMap<RemoteWatcher, bool>, origin: &UniqueAddress)
-    ensures { places.new.entries ≡ filter (λ place. place.1 && not (same_origin origin.now place.0.origin)) places.old.entries }
+/// Forgets an origin at one place, and counts one where a remote watch stands there then.
+fn leave_at(
+    places: &mut IndexMap<RemoteWatcher, Option<u64>>,
+    at: usize,
+    origin: &UniqueAddress,
+) -> usize
+    requires { at < length places.old.entries }
+    ensures place { (place : RemoteWatcherValue × Option ℕ) → slice_get places.old.entries at ≡ Some place → places.new.entries ≡ set_value_at places.old.entries at (left origin.now place) }
+    ensures count { (place : RemoteWatcherValue × Option ℕ) → slice_get places.old.entries at ≡ Some place → result ≡ one_of (left origin.now place) }
 {
-    places.retain(
-        |remote: &RemoteWatcher, stands: &mut bool| -> bool
-            ensures { (result ≡ (stands.old && not (same_origin origin.entry.now remote.now.origin))) × (stands.new ≡ stands.old) }
-        { *stands && !(*origin == remote.origin) },
-    );
+    let (remote, number) = places.pair_mut(at);
+    if is_same(origin, &remote.origin) {
+        *number = None;
+    }
+    number.is_some() as usize
 }
 
-/// A remote watch of no node, with this number, which only fills a place.
-fn filler(alloc: Global, number: u64) -> Result<RemoteWatcher, NoMemory> {
-    let address = Address {
-        protocol: Text::from_ascii(alloc, b"")?,
-        system: Text::from_ascii(alloc, b"")?,
-        host: Text::from_ascii(alloc, b"")?,
-        port: 0,
-    };
-    Ok(RemoteWatcher {
-        watcher: Text::from_ascii(alloc, b"")?,
-        origin: UniqueAddress {
-            address,
-            uid: number,
-        },
-    })
-}
-
-/// Gives the place of a remote watch that does not stand to one that has none, and does not stand there either. Without memory nothing changes.
-#[tactic(auto, using(crate::proofs::Stood::place_given))]
-fn give_place(
-    places: &mut IndexMap<RemoteWatcher, bool>,
-    remote: &RemoteWatcher,
-    filler: RemoteWatcher,
-) -> Result<(), NoMemory>
-    requires fallen { is_among remote.now (standing places.old.entries) ≡ false }
-    requires there { is_some (lookup (same_remote remote.now) places.old.entries) ≡ true }
-    requires none { is_some (lookup (same_remote filler) places.old.entries) ≡ false }
-    ensures same { standing places.new.entries ≡ standing places.old.entries }
-    ensures none { OnOk result (is_some (lookup (same_remote remote.now) places.new.entries) ≡ false) }
+/// Forgets an origin at each place, and counts those that stand then.
+fn leave(places: &mut IndexMap<RemoteWatcher, Option<u64>>, origin: &UniqueAddress) -> usize
+    ensures places { places.new.entries ≡ left_of origin.now places.old.entries }
+    ensures count { result ≡ count places.new.entries }
 {
-    // The length is what says that the keys differ.
-    let _len = places.len();
-    let _old = places.insert(filler, false)?;
-    let _place = places.swap_remove(remote);
-    Ok(())
+    let mut standing = 0;
+    for at in 0..places.len() {
+        standing += leave_at(places, at, origin);
+    }
+    standing
 }
 
-/// Makes a remote watch that does not stand have no place: its place is filled, so that none has to move up.
-#[tactic(auto, using(crate::proofs::Stood::new_has_none))]
-fn clear_place(
+/// Makes a remote watch that does not stand the last that does, with this number. Without memory nothing changes.
+#[tactic(auto, using(crate::proofs::Stood::risen_last, crate::proofs::Stood::last_stands))]
+fn rise(
     alloc: Global,
-    places: &mut IndexMap<RemoteWatcher, bool>,
-    remote: &RemoteWatcher,
+    places: &mut IndexMap<RemoteWatcher, Option<u64>>,
+    watcher: &Text,
+    origin: &UniqueAddress,
     number: u64,
 ) -> Result<(), NoMemory>
-    requires { is_among remote.now (standing places.old.entries) ≡ false }
-    ensures same { standing places.new.entries ≡ standing places.old.entries }
-    ensures none { OnOk result (is_some (lookup (same_remote remote.now) places.new.entries) ≡ false) }
+    requires fallen { is_among (remote_of watcher.now origin.now) (standing places.old.entries) ≡ false }
+    requires below { IsWithin 0 number (in_order places.old.entries) }
+    ensures ok { OnOk result (in_order places.new.entries ≡ in_order places.old.entries ++ (remote_of watcher.now origin.now, number) ∷ []) }
+    ensures err { OnErr result (in_order places.new.entries ≡ in_order places.old.entries) }
 {
-    if !places.contains_key(remote) {
+    if let Some(place) = places.get_mut(RemoteRef { watcher, origin }) {
+        *place = Some(number);
         return Ok(());
     }
-    let filler = filler(alloc, number)?;
-    if places.contains_key(&filler) {
-        tidy(places);
-        return Ok(());
-    }
-    give_place(places, remote, filler)
-}
-
-/// Adds a remote watch that has no place as the last. Without memory nothing changes.
-#[tactic(auto, using(crate::proofs::Stood::last_stands))]
-fn push(places: &mut IndexMap<RemoteWatcher, bool>, remote: RemoteWatcher) -> Result<(), NoMemory>
-    requires { is_some (lookup (same_remote remote) places.old.entries) ≡ false }
-    ensures ok { OnOk result (standing places.new.entries ≡ standing places.old.entries ++ remote ∷ []) }
-    ensures err { OnErr result (standing places.new.entries ≡ standing places.old.entries) }
-{
-    let _old = places.insert(remote, true)?;
+    let remote = RemoteRef { watcher, origin }.copy(alloc)?;
+    let _old = places.insert(remote, Some(number))?;
     Ok(())
 }
 
 /// Makes a remote watch stand no longer, and answers whether it stood.
 #[tactic(auto, using(crate::proofs::Stood::stands_is, crate::proofs::Stood::none_stands, crate::proofs::Stood::fallen, crate::proofs::Stood::none_falls))]
-fn fell(places: &mut IndexMap<RemoteWatcher, bool>, watcher: &Text, origin: &UniqueAddress) -> bool
+fn fell(
+    places: &mut IndexMap<RemoteWatcher, Option<u64>>,
+    watcher: &Text,
+    origin: &UniqueAddress,
+) -> bool
+    requires { Rises (in_order places.old.entries) }
     ensures answer { result ≡ is_among (remote_of watcher.now origin.now) (standing places.old.entries) }
-    ensures rest { standing places.new.entries ≡ remove_key (same_remote (remote_of watcher.now origin.now)) (standing places.old.entries) }
+    ensures rest { in_order places.new.entries ≡ remove_entry (same_remote (remote_of watcher.now origin.now)) (in_order places.old.entries) }
 {
-    let Some(stands) = places.get_mut(RemoteRef { watcher, origin }) else {
+    let Some(number) = places.get_mut(RemoteRef { watcher, origin }) else {
         return false;
     };
-    let stood = *stands;
-    *stands = false;
+    let stood = number.is_some();
+    *number = None;
     stood
+}
+
+/// Puts a watcher among others by its number.
+fn put(found: &mut BTreeMap<u64, Text>, number: u64, watcher: &Text) -> Result<(), NoMemory>
+    ensures { OnOk result (found.new.entries ≡ insert_entry nat_cmp found.old.entries number watcher.now) }
+{
+    let _old = found.insert(number, watcher.clone()?)?;
+    Ok(())
+}
+
+/// Puts the watcher at one place, if it stands there, among those at the places behind it.
+fn put_at(
+    found: &mut BTreeMap<u64, Text>,
+    places: &IndexMap<RemoteWatcher, Option<u64>>,
+    at: usize,
+) -> Result<(), NoMemory>
+    requires rises { Rises (in_order places.now.entries) }
+    requires behind { found.old.entries ≡ watchers_by (in_order (drop (at + 1) places.now.entries)) }
+    ensures { OnOk result (found.new.entries ≡ watchers_by (in_order (drop at places.now.entries))) }
+{
+    let Some((remote, number)) = places.get_index(at) else {
+        return Err(NoMemory);
+    };
+    let Some(number) = number else {
+        return Ok(());
+    };
+    put(found, *number, &remote.watcher)?;
+    Ok(())
+}
+
+/// The watchers by their numbers.
+#[tactic(auto, using(crate::proofs::Sorting::none_behind))]
+fn by_number(
+    alloc: Global,
+    places: &IndexMap<RemoteWatcher, Option<u64>>,
+) -> Result<BTreeMap<u64, Text>, NoMemory>
+    requires { Rises (in_order places.now.entries) }
+    ensures { IfOk result (λ found. found.entries ≡ watchers_by (in_order places.now.entries)) }
+{
+    let mut found = BTreeMap::new(alloc);
+    let mut at = places.len();
+    while at > 0 {
+        at -= 1;
+        put_at(&mut found, places, at)?;
+    }
+    Ok(found)
+}
+
+/// The watchers in the order of their numbers.
+fn sorted_watchers(
+    alloc: Global,
+    places: &IndexMap<RemoteWatcher, Option<u64>>,
+) -> Result<Names, NoMemory>
+    requires { Rises (in_order places.now.entries) }
+    ensures { IfOk result (λ names. names ≡ map (λ remote. remote.watcher) (standing places.now.entries)) }
+{
+    let mut names = Names::new(alloc);
+    for (_number, watcher) in by_number(alloc, places)? {
+        names.push(watcher)?;
+    }
+    Ok(names)
+}
+
+/// The lowest number from one place on, where the numbers rise from there on; behind it they do, and none is below `low`.
+fn lowest_from(places: &IndexMap<RemoteWatcher, Option<u64>>, at: usize, low: u64) -> Option<u64>
+    requires { IsRising low (drop (at + 1) places.now.entries) }
+    ensures { IfSome result (λ low. IsRising low (drop at places.now.entries)) }
+{
+    let Some((_remote, number)) = places.get_index(at) else {
+        return None;
+    };
+    let Some(number) = number else {
+        return Some(low);
+    };
+    if *number >= low {
+        return None;
+    }
+    Some(*number)
+}
+
+/// Whether the numbers rise from place to place.
+#[tactic(auto, using(crate::proofs::Rising::rising_end, crate::proofs::Rising::rising_all))]
+fn are_in_order(places: &IndexMap<RemoteWatcher, Option<u64>>) -> bool
+    ensures { result ≡ true → in_order places.now.entries ≡ listed places.now.entries }
+{
+    let mut low = u64::MAX;
+    let mut at = places.len();
+    while at > 0 {
+        at -= 1;
+        let Some(next) = lowest_from(places, at, low) else {
+            return false;
+        };
+        low = next;
+    }
+    true
 }
 
 /// Adds the watcher of a remote watch at the end.
@@ -172,16 +260,37 @@ fn push_watcher(names: &mut Names, remote: &RemoteWatcher) -> Result<(), NoMemor
     names.push(remote.watcher.clone()?)
 }
 
-/// The watchers, one for each remote watch that stands.
-fn watchers_in(alloc: Global, places: &IndexMap<RemoteWatcher, bool>) -> Result<Names, NoMemory>
-    ensures { IfOk result (λ names. names ≡ map (λ remote. remote.watcher) (standing places.now.entries)) }
+/// The watchers in the order of their places.
+fn placed_watchers(
+    alloc: Global,
+    places: &IndexMap<RemoteWatcher, Option<u64>>,
+) -> Result<Names, NoMemory>
+    ensures { IfOk result (λ names. names ≡ map (λ remote. remote.watcher) (by_place places.now.entries)) }
 {
     let mut names = Names::new(alloc);
-    for (remote, stands) in places.iter() {
-        if *stands {
+    for (remote, number) in places.iter() {
+        if number.is_some() {
             push_watcher(&mut names, remote)?;
         }
     }
+    Ok(names)
+}
+
+/// The watchers, one for each remote watch that stands: sorted by their numbers, unless these rise from place to place, as they do where none
+/// was added again, or all in turn.
+#[tactic(auto, using(crate::proofs::Rising::by_place_is))]
+fn watchers_in(
+    alloc: Global,
+    places: &IndexMap<RemoteWatcher, Option<u64>>,
+) -> Result<Names, NoMemory>
+    requires { Rises (in_order places.now.entries) }
+    ensures { IfOk result (λ names. names ≡ map (λ remote. remote.watcher) (standing places.now.entries)) }
+{
+    if are_in_order(places) {
+        let names = placed_watchers(alloc, places)?;
+        return Ok(names);
+    }
+    let names = sorted_watchers(alloc, places)?;
     Ok(names)
 }
 
@@ -193,7 +302,7 @@ impl Remotes {
         Remotes {
             places: IndexMap::new(alloc),
             stand: 0,
-            fillers: 0,
+            added: 0,
         }
     }
 
@@ -211,8 +320,8 @@ impl Remotes {
         stands(&self.places, watcher, origin)
     }
 
-    /// Adds a new one as the last. Without memory nothing changes.
-    #[tactic(auto, using(crate::proofs::Stood::few_fit, crate::proofs::Stood::one_more))]
+    /// Adds a new one as the last. Without memory nothing changes, nor where so many were added that no number below 2^64 is left.
+    #[tactic(auto, using(crate::proofs::Stood::few_fit, crate::proofs::Stood::stand_after, crate::proofs::Stood::stand_same, crate::proofs::Stood::rises_same))]
     pub fn add(
         &mut self,
         alloc: Global,
@@ -225,16 +334,17 @@ impl Remotes {
     {
         // The length is what says that one more can be counted.
         let _len = self.places.len();
-        let remote = RemoteRef { watcher, origin }.copy(alloc)?;
-        self.fillers = self.fillers.wrapping_add(1);
-        clear_place(alloc, &mut self.places, &remote, self.fillers)?;
-        push(&mut self.places, remote)?;
+        let Some(next) = self.added.checked_add(1) else {
+            return Err(NoMemory);
+        };
+        rise(alloc, &mut self.places, watcher, origin, self.added)?;
+        self.added = next;
         self.stand += 1;
         Ok(())
     }
 
     /// Removes one, and answers whether it was there.
-    #[tactic(auto, using(crate::proofs::Stood::less_fit, crate::proofs::Stood::one_less, crate::proofs::Stood::same_many))]
+    #[tactic(auto, using(crate::proofs::Stood::rises, crate::proofs::Stood::stand_without, crate::proofs::Stood::stand_same, crate::proofs::Stood::one_less))]
     pub fn remove(&mut self, watcher: &Text, origin: &UniqueAddress) -> bool
         ensures answer { result ≡ is_among (remote_of watcher.now origin.now) self.old }
         ensures rest { self.new ≡ remove_key (same_remote (remote_of watcher.now origin.now)) self.old }
@@ -243,22 +353,21 @@ impl Remotes {
             return false;
         }
         self.stand -= 1;
-        if self.places.len() - self.stand > self.places.len() / 2 {
-            tidy(&mut self.places);
-        }
+        tidy(&mut self.places, self.stand);
         true
     }
 
     /// Removes those from this origin.
-    #[tactic(auto, using(crate::proofs::Stood::others_left))]
+    #[tactic(auto, using(crate::proofs::Stood::rises, crate::proofs::Stood::others_left, crate::proofs::Stood::rises_left, crate::proofs::Stood::count_stands, crate::proofs::Stood::rises_same))]
     pub fn forget(&mut self, origin: &UniqueAddress)
         ensures { self.new ≡ not_from origin.now self.old }
     {
-        keep_others(&mut self.places, origin);
-        self.stand = self.places.len();
+        self.stand = leave(&mut self.places, origin);
+        tidy(&mut self.places, self.stand);
     }
 
     /// The watchers, one for each remote watch.
+    #[tactic(auto, using(crate::proofs::Stood::rises))]
     pub fn watchers(&self, alloc: Global) -> Result<Names, NoMemory>
         ensures { IfOk result (λ names. names ≡ map (λ remote. remote.watcher) self.now) }
     {

@@ -139,7 +139,8 @@ impl Watcher {
     /// Adds the remote watch of the actor with this path by this watcher, told by this origin.
     ///
     /// NotThere exactly where the actor is not there; else There exactly where this remote watch stands; else Full where 262,144 stand.
-    /// Nothing changes then, nor without memory. Takes time by the lengths of the texts alone, amortized.
+    /// Nothing changes then, nor without memory; an actor to which 2^64 - 1 were added takes no further one, and answers as without memory.
+    /// Takes time by the lengths of the texts alone, amortized.
     pub fn remote_watch(
         &mut self,
         alloc: Global,

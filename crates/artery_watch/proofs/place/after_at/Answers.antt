@@ -1,4 +1,4 @@
-use Rattle.std.proofs.Common.{rules, ◌≡◌, ℕ, List, ◌++◌, ◌∙◌, sym, codes}
+use Rattle.std.proofs.Common.{rules, ◌≡◌, ◌++◌, ◌∙◌, sym, codes}
 use Rattle.std.specs.Prelude.{Some}
 use Rattle.artery_watch.specs.Place.{after}
 use Rattle.artery_watch.proofs.Places.{some_after}
