@@ -9,6 +9,7 @@ mod asking;
 mod closing;
 mod copies;
 mod deeds;
+mod due;
 mod finding;
 mod making;
 mod sending;
