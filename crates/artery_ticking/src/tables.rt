@@ -7,7 +7,7 @@ ghost use Rattle.artery_machine.specs.Ticking.{numbers_from, advertisement, unco
 ghost use Rattle.artery_journal.specs.declared.line.Line.TheVariants as lines;
 ghost use Rattle.artery_tables.specs.declared.in_tables.Advertised.TheVariants.{New};
 
-use artery_base::{NoMemory, UniqueAddress, Values};
+use artery_base::{Names, NoMemory, UniqueAddress, Values};
 use artery_control::Control;
 use artery_journal::{Kind, Line};
 use artery_node::Work;
@@ -44,6 +44,13 @@ fn sequence_of(number: u64) -> Option<u64>
     }
 }
 
+/// The same names.
+fn copy_of_names(names: &Names) -> Result<Names, NoMemory>
+    ensures { IfOk result (λ copy. copy ≡ names.now) }
+{
+    Ok(names.clone()?)
+}
+
 /// The announcement of a table to an origin, with the names in their order and their places from 0 on. `NoMemory` also where there are more
 /// than 65,535 names.
 fn advertisement(
@@ -56,28 +63,28 @@ fn advertisement(
     ensures { IfOk result (λ control. control ≡ advertisement kind me.now v.now table.now) }
 {
     let from = me.clone()?;
-    let keys = table.names.clone()?;
+    let keys = copy_of_names(&table.names)?;
     let values = numbers_up_to(alloc, table.names.len())?;
     let sequence = sequence_of(table.number);
     let (origin_uid, version) = (v.uid, table.version);
-    Ok(match kind {
-        Kind::Refs => Control::RefsTable {
+    match kind {
+        Kind::Refs => Ok(Control::RefsTable {
             from,
             origin_uid,
             version,
             keys,
             values,
             sequence,
-        },
-        Kind::Manifests => Control::ManifestsTable {
+        }),
+        Kind::Manifests => Ok(Control::ManifestsTable {
             from,
             origin_uid,
             version,
             keys,
             values,
             sequence,
-        },
-    })
+        }),
+    }
 }
 
 /// The table that is announced and not confirmed is written to an origin, if there is one.
