@@ -1,11 +1,12 @@
 //! What is asked of the peers, the inbound connections and the origins of a node at a moment, and how they change then.
-ghost use Rattle.std.specs.Prelude.{◌≡◌, ◌<◌, ◌^◌, ◌++◌, ◌∷◌, [], OnOk, IfOk, map};
+ghost use Rattle.std.specs.Prelude.{◌≡◌, ◌<◌, ◌^◌, ◌++◌, ◌∷◌, [], OnOk, IfOk, map, not, ◌&&◌, is_some};
 ghost use Rattle.std.specs.Option.{option_copied};
 ghost use Rattle.artery_detector.specs.Kept.{kept_available};
 ghost use Rattle.artery_handshake.specs.Outgoing.{conn_ticked};
 ghost use Rattle.artery_tables.specs.InTables.{number_in, advertising};
 ghost use Rattle.artery_machine.specs.Parts.{kept};
-ghost use Rattle.artery_machine.specs.Node.{address_of, link_of, with_link, of_kind, peer_at, origin_at};
+ghost use Rattle.artery_machine.specs.Node.{address_of, link_of, with_link, of_kind, peer_at, origin_at, has_closed};
+ghost use Rattle.artery_machine.specs.Closing.{control_dial};
 ghost use Rattle.artery_machine.specs.Handshaking.{quiet_now, change_conn};
 ghost use Rattle.artery_machine.specs.Doing.{in_bytes, becomes, peer_becomes, origin_becomes};
 ghost use Rattle.artery_machine.specs.Ticking.{is_due_since, heartbeat_after, is_bound, is_lost, is_quiet, asked_at, beaten_at, is_idle, asleep_now, is_settled, unconfirmed_of, with_advertised, advertised_now, is_to_advertise, at_moment};
@@ -14,7 +15,7 @@ use crate::work::Work;
 use artery_base::{Address, NoMemory, UniqueAddress};
 use artery_frame::Stream;
 use artery_journal::Kind;
-use artery_peer::{Origin, Peer, is_due};
+use artery_peer::{Origin, Peer, dial_to, is_due};
 use artery_tables::{Advertised, Table};
 use std::alloc::Global;
 
@@ -268,13 +269,23 @@ impl Work {
         }
     }
 
+    /// Whether an origin is not closed, and the control connection is bound to it.
+    fn is_reached(&self, v: &UniqueAddress) -> bool
+        ensures { result ≡ (not (has_closed v.now self.now.node) && is_some (control_dial v.now self.now.node)) }
+    {
+        match self.peer(&v.address) {
+            None => false,
+            Some(peer) => {
+                !peer.has_closed(v.uid) && dial_to(v.uid, peer.conn(Stream::Control)).is_some()
+            }
+        }
+    }
+
     /// Whether tables are to be advertised to an origin: it is not closed, the control connection is bound to it, and a minute has gone by.
     pub fn is_to_advertise(&self, v: &UniqueAddress) -> bool
         ensures { result ≡ is_to_advertise v.now self.now.node }
     {
-        !self.has_closed(v)
-            && self.control_dial(v).is_some()
-            && is_due(ADVERTISE_AFTER_MS, self.last_due(v), self.moment)
+        self.is_reached(v) && is_due(ADVERTISE_AFTER_MS, self.last_due(v), self.moment)
     }
 
     /// The tables of a kind are advertised to an origin.
