@@ -1,7 +1,7 @@
 //! Heartbeats to incarnations with actors that are watched.
 ghost use Rattle.std.specs.Prelude.{◌≡◌, OnOk, Some};
 ghost use Rattle.artery_machine.specs.Parts.{kept};
-ghost use Rattle.artery_machine.specs.Node.{peer_at, current_of};
+ghost use Rattle.artery_machine.specs.Node.{peer_at, current_of, incarnation};
 ghost use Rattle.artery_machine.specs.Doing.{in_bytes};
 ghost use Rattle.artery_machine.specs.Ticking.{beats_on, beats, detects_of, detects_as, detects};
 
@@ -35,17 +35,25 @@ fn beats(work: &mut Work, v: &UniqueAddress) -> Result<(), NoMemory>
     Ok(())
 }
 
+/// The same to the incarnation with this UID at an address.
+fn beats_to(work: &mut Work, address: &Address, uid: u64) -> Result<(), NoMemory>
+    ensures { OnOk result (work.new ≡ beats (incarnation address.now uid) work.old) }
+{
+    let v = UniqueAddress {
+        address: address.clone()?,
+        uid,
+    };
+    beats(work, &v)?;
+    Ok(())
+}
+
 /// An incarnation that is not available is closed; to one that is, heartbeats are written.
 fn detects_of(work: &mut Work, address: &Address, uid: u64) -> Result<(), NoMemory>
     requires { current_of (peer_at address.now work.old.node) ≡ Some uid }
     ensures { OnOk result (work.new ≡ detects_of address.now uid work.old) }
 {
     if work.is_available(address) {
-        let v = UniqueAddress {
-            address: address.clone()?,
-            uid,
-        };
-        beats(work, &v)
+        beats_to(work, address, uid)
     } else {
         work.closes_current(address, Some(uid), Cause::Unreachable)
     }

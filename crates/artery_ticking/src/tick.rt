@@ -27,7 +27,6 @@ fn ticks_peer(work: &mut Work, address: &Address) -> Result<(), NoMemory>
 }
 
 /// What is due for the peers at these addresses, in order.
-#[tactic(auto, using(crate::proofs::Each::each_next))]
 fn ticks_each_peer(work: &mut Work, addresses: &[Address]) -> Result<(), NoMemory>
     ensures { OnOk result (work.new ≡ each addresses.now ticks_peer work.old) }
 {
@@ -47,7 +46,6 @@ fn ticks_peers(work: &mut Work) -> Result<(), NoMemory>
 }
 
 /// What is due for these origins, in order.
-#[tactic(auto, using(crate::proofs::Each::each_next))]
 fn ticks_each_origin(work: &mut Work, origins: &[UniqueAddress]) -> Result<(), NoMemory>
     ensures { OnOk result (work.new ≡ each origins.now ticks_origin work.old) }
 {
