@@ -16,4 +16,5 @@ mod sending;
 mod watching;
 mod work;
 
+pub use closing::incarnation;
 pub use work::Work;

@@ -8,7 +8,7 @@ ghost use Rattle.artery_machine.specs.Ticking.{beats_on, beats, detects_of, dete
 use artery_base::{Address, NoMemory, UniqueAddress};
 use artery_control::Control;
 use artery_journal::Cause;
-use artery_node::Work;
+use artery_node::{Work, incarnation};
 
 /// A heartbeat is written on the control connection, where that is bound to the incarnation.
 fn beats_on(work: &mut Work, v: &UniqueAddress, dial: Option<u64>) -> Result<(), NoMemory>
@@ -39,10 +39,7 @@ fn beats(work: &mut Work, v: &UniqueAddress) -> Result<(), NoMemory>
 fn beats_to(work: &mut Work, address: &Address, uid: u64) -> Result<(), NoMemory>
     ensures { OnOk result (work.new ≡ beats (incarnation address.now uid) work.old) }
 {
-    let v = UniqueAddress {
-        address: address.clone()?,
-        uid,
-    };
+    let v = incarnation(address, uid)?;
     beats(work, &v)?;
     Ok(())
 }

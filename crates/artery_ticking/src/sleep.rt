@@ -4,10 +4,10 @@ ghost use Rattle.artery_machine.specs.Parts.{kept};
 ghost use Rattle.artery_machine.specs.Doing.{in_bytes};
 ghost use Rattle.artery_machine.specs.Ticking.{drops_control, tells_idle, sleeps};
 
-use artery_base::{Address, NoMemory, UniqueAddress};
+use artery_base::{Address, NoMemory};
 use artery_frame::Stream;
 use artery_journal::Line;
-use artery_node::Work;
+use artery_node::{Work, incarnation};
 use artery_peer::dial_of;
 
 /// The control connection of a peer is hung up and gone.
@@ -28,10 +28,7 @@ fn tells_idle(work: &mut Work, address: &Address, current: Option<u64>) -> Resul
         return Ok(());
     };
     let of = work.me().clone()?;
-    let other = UniqueAddress {
-        address: address.clone()?,
-        uid,
-    };
+    let other = incarnation(address, uid)?;
     work.tell(Line::Idle { of, other })
 }
 
