@@ -10,10 +10,12 @@ mod closing;
 mod coming;
 mod copies;
 mod deeds;
+mod due;
 mod finding;
 mod making;
 mod sending;
 mod watching;
 mod work;
 
+pub use closing::incarnation;
 pub use work::Work;

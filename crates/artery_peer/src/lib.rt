@@ -5,11 +5,13 @@
 
 mod coming;
 mod connection;
+mod due;
 mod inbound;
 mod origin;
 mod peer;
 
 pub use connection::{bound_dial, dial_asked, dial_of, dial_to, has_dial};
+pub use due::{answer_to_tick, is_due};
 pub use inbound::Inbound;
 pub use origin::Origin;
 pub use peer::Peer;
