@@ -4,6 +4,7 @@
 #![tactic(auto)]
 
 mod connection;
+mod hearing;
 mod inbound;
 mod origin;
 mod peer;
