@@ -5,3 +5,4 @@ pub mod Overflows
 pub mod Each
 pub mod Unwatched
 pub mod Sent
+pub mod Heard

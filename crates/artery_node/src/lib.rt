@@ -10,6 +10,7 @@ mod closing;
 mod copies;
 mod deeds;
 mod finding;
+mod hearing;
 mod making;
 mod sending;
 mod watching;

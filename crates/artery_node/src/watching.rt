@@ -288,7 +288,7 @@ impl Work {
 
     /// What an origin told of a watch acts: a watch begins where the actor is the node's own and the watcher the origin's; it ends where the
     /// actor is the node's own; an actor has ended where it is the origin's.
-    fn acts_as(&mut self, v: &UniqueAddress, what: Told) -> Result<(), NoMemory>
+    pub fn acts_as(&mut self, v: &UniqueAddress, what: Told) -> Result<(), NoMemory>
         ensures { OnOk result (self.new ≡ acts_as v.now self.old.node.me.address (told what) self.old) }
     {
         match what {
