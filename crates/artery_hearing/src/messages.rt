@@ -6,8 +6,8 @@ ghost use Rattle.artery_journal.specs.declared.line.Line.TheVariants as lines;
 ghost use Rattle.artery_machine.specs.Parts.{kept};
 ghost use Rattle.artery_machine.specs.Doing.{in_bytes, tells_of};
 ghost use Rattle.artery_machine.specs.Watching.{acts, acts_as};
-ghost use Rattle.artery_machine.specs.Hearing.{acknowledges, numbered, of_current, acked, nacked};
-ghost use Rattle.artery_hearing.specs.Heard.{ack_of, numbered_then, cleared_then};
+ghost use Rattle.artery_machine.specs.Hearing.{acknowledges_on, acknowledges, numbered, of_current, acked, nacked};
+ghost use Rattle.artery_hearing.specs.Heard.{ack_of, answers, numbered_then, acked_then, cleared_then};
 ghost use Rattle.artery_notices.specs.Telling.{told};
 
 use artery_base::{NoMemory, SysMsg, UniqueAddress};
@@ -17,30 +17,44 @@ use artery_journal::{Line, Rule};
 use artery_node::Work;
 use artery_notices::told_of;
 
-/// An acknowledgement, or where something is missing the contrary.
-fn ack_of(missing: bool, n: u64, from: UniqueAddress) -> Control
-    ensures { result ≡ ack_of missing n from }
+/// The last message taken is acknowledged on the control connection to its origin, or what follows it is asked for.
+fn answers(work: &mut Work, v: &UniqueAddress, missing: bool) -> Result<(), NoMemory>
+    ensures { OnOk result (work.new ≡ answers v.now missing work.old) }
 {
+    let n = work.last_taken(v);
+    let from = work.me().clone()?;
+    work.owes_ack(v, false);
     if missing {
-        Control::Nack { n, from }
+        work.on_control(v, Control::Nack { n, from })
     } else {
-        Control::Ack { n, from }
+        work.on_control(v, Control::Ack { n, from })
     }
 }
 
-/// The last message taken is acknowledged on the control connection to its origin, or what follows it is asked for. Where that connection is
-/// not bound to it, an acknowledgement is owed.
+/// The same where the control connection to the origin has this dial number. Where it is not bound to it, an acknowledgement is owed.
+fn acknowledges_on(
+    work: &mut Work,
+    v: &UniqueAddress,
+    missing: bool,
+    dial: Option<u64>,
+) -> Result<(), NoMemory>
+    ensures { OnOk result (work.new ≡ acknowledges_on v.now (ack_of missing) dial work.old) }
+{
+    match dial {
+        None => {
+            work.owes_ack(v, true);
+            Ok(())
+        }
+        Some(_dial) => answers(work, v, missing),
+    }
+}
+
+/// The last message taken from an origin is acknowledged, or what follows it is asked for.
 fn acknowledges(work: &mut Work, v: &UniqueAddress, missing: bool) -> Result<(), NoMemory>
     ensures { OnOk result (work.new ≡ acknowledges v.now (ack_of missing) work.old) }
 {
-    let Some(_dial) = work.control_dial(v) else {
-        work.owes_ack(v, true);
-        return Ok(());
-    };
-    let from = work.me().clone()?;
-    let control = ack_of(missing, work.last_taken(v), from);
-    work.owes_ack(v, false);
-    work.on_control(v, control)
+    let dial = work.control_dial(v);
+    acknowledges_on(work, v, missing, dial)
 }
 
 /// It is told that a message was taken.
@@ -144,16 +158,30 @@ fn cleared_then(
     work.pumps(&v.address)
 }
 
-/// An acknowledgement of the messages up to a number. One past the last message sent is dropped, and so is one of an incarnation that is not
-/// current.
+/// What follows an acknowledgement, once what is kept for the peer has changed or not. One past the last message sent is dropped.
+fn acked_then(
+    work: &mut Work,
+    conn: u64,
+    v: &UniqueAddress,
+    again: bool,
+    answer: Acked,
+) -> Result<(), NoMemory>
+    ensures { OnOk result (work.new ≡ acked_then conn v.now again answer work.old) }
+{
+    match answer {
+        Acked::Past => work.drops(conn, Rule::AckRange),
+        Acked::Cleared { count } => cleared_then(work, v, again, count),
+    }
+}
+
+/// An acknowledgement of the messages up to a number.
 #[tactic(auto, using(crate::proofs::Same::acked_so))]
 fn acked_now(work: &mut Work, conn: u64, v: &UniqueAddress, n: u64) -> Result<(), NoMemory>
     ensures { OnOk result (work.new ≡ acked conn v.now n work.old) }
 {
-    match work.acknowledges(&v.address, n) {
-        Acked::Past => work.drops(conn, Rule::AckRange),
-        Acked::Cleared { count } => cleared_then(work, v, false, count),
-    }
+    let answer = work.acknowledges(&v.address, n);
+    acked_then(work, conn, v, false, answer)?;
+    Ok(())
 }
 
 /// The same, with the messages behind it asked for again.
@@ -161,10 +189,9 @@ fn acked_now(work: &mut Work, conn: u64, v: &UniqueAddress, n: u64) -> Result<()
 fn nacked_now(work: &mut Work, conn: u64, v: &UniqueAddress, n: u64) -> Result<(), NoMemory>
     ensures { OnOk result (work.new ≡ nacked conn v.now n work.old) }
 {
-    match work.asks_again(&v.address, n) {
-        Acked::Past => work.drops(conn, Rule::AckRange),
-        Acked::Cleared { count } => cleared_then(work, v, true, count),
-    }
+    let answer = work.asks_again(&v.address, n);
+    acked_then(work, conn, v, true, answer)?;
+    Ok(())
 }
 
 /// An acknowledgement came. One of an incarnation that is not current is dropped.
@@ -181,8 +208,8 @@ pub(crate) fn acked(work: &mut Work, conn: u64, v: &UniqueAddress, n: u64) -> Re
 pub(crate) fn nacked(work: &mut Work, conn: u64, v: &UniqueAddress, n: u64) -> Result<(), NoMemory>
     ensures { OnOk result (work.new ≡ of_current conn v.now (nacked conn v.now n) work.old) }
 {
-    if !work.is_now(v) {
-        return work.drops(conn, Rule::NotCurrent);
+    if work.is_now(v) {
+        return nacked_now(work, conn, v, n);
     }
-    nacked_now(work, conn, v, n)
+    work.drops(conn, Rule::NotCurrent)
 }

@@ -4,7 +4,8 @@ ghost use Rattle.artery_journal.specs.declared.line.Line.TheVariants as lines;
 ghost use Rattle.artery_tables.specs.Story.{version_of};
 ghost use Rattle.artery_machine.specs.Parts.{kept};
 ghost use Rattle.artery_machine.specs.Doing.{in_bytes, tells_of};
-ghost use Rattle.artery_machine.specs.Hearing.{sequence_of, table_number, table_ack, acknowledges_table, adopts, tabled, confirms};
+ghost use Rattle.artery_machine.specs.Hearing.{sequence_of, table_number, acknowledges_table, adopts, tabled, confirms};
+ghost use Rattle.artery_hearing.specs.Heard.{adopts_then, confirms_then};
 
 use artery_base::{Names, NoMemory, UniqueAddress, Values};
 use artery_control::Control;
@@ -49,26 +50,6 @@ pub(crate) fn table_number(version: u8, sequence: Option<u64>) -> u64
     }
 }
 
-/// The acknowledgement of a table with this number.
-fn table_ack(kind: Kind, from: UniqueAddress, number: u64) -> Control
-    ensures { result ≡ table_ack kind from number }
-{
-    let version = version_of(number);
-    let sequence = sequence_of(number);
-    match kind {
-        Kind::Refs => Control::RefsAck {
-            from,
-            version,
-            sequence,
-        },
-        Kind::Manifests => Control::ManifestsAck {
-            from,
-            version,
-            sequence,
-        },
-    }
-}
-
 /// The acknowledgement of a table is written on the control connection to its origin.
 fn acknowledges_table(
     work: &mut Work,
@@ -79,7 +60,26 @@ fn acknowledges_table(
     ensures { OnOk result (work.new ≡ acknowledges_table kind v.now number work.old) }
 {
     let from = work.me().clone()?;
-    work.on_control(v, table_ack(kind, from, number))
+    let version = version_of(number);
+    let sequence = sequence_of(number);
+    match kind {
+        Kind::Refs => work.on_control(
+            v,
+            Control::RefsAck {
+                from,
+                version,
+                sequence,
+            },
+        ),
+        Kind::Manifests => work.on_control(
+            v,
+            Control::ManifestsAck {
+                from,
+                version,
+                sequence,
+            },
+        ),
+    }
 }
 
 /// It is told that a table was adopted.
@@ -101,10 +101,32 @@ fn tells_adopted(
     })
 }
 
-/// A table of one kind came. An older one is dropped; the one that is held already is acknowledged again; a newer one is adopted, told and
-/// acknowledged.
+/// What follows a table, once it was adopted or not. An older one is dropped; the one that was held already is acknowledged again; one that was
+/// adopted is told and acknowledged.
+fn adopts_then(
+    work: &mut Work,
+    conn: u64,
+    v: &UniqueAddress,
+    kind: Kind,
+    number: u64,
+    answer: Adopted,
+) -> Result<(), NoMemory>
+    ensures { OnOk result (work.new ≡ adopts_then conn v.now kind number answer work.old) }
+{
+    match answer {
+        Adopted::Older => work.drops(conn, Rule::OldTable),
+        Adopted::Same => acknowledges_table(work, kind, v, number),
+        Adopted::Adopted => {
+            tells_adopted(work, v, kind, number)?;
+            acknowledges_table(work, kind, v, number)
+        }
+    }
+}
+
+/// A table of one kind came.
 ///
 /// Wants as many values as keys.
+#[tactic(auto, using(crate::proofs::Same::adopts_so))]
 fn adopts(
     work: &mut Work,
     conn: u64,
@@ -117,14 +139,9 @@ fn adopts(
     requires { length keys ≡ length values }
     ensures { OnOk result (work.new ≡ adopts conn v.now kind number keys values work.old) }
 {
-    match work.adopts(&v.address, kind, number, keys, values)? {
-        Adopted::Older => work.drops(conn, Rule::OldTable),
-        Adopted::Same => acknowledges_table(work, kind, v, number),
-        Adopted::Adopted => {
-            tells_adopted(work, v, kind, number)?;
-            acknowledges_table(work, kind, v, number)
-        }
-    }
+    let answer = work.adopts(&v.address, kind, number, keys, values)?;
+    adopts_then(work, conn, v, kind, number, answer)?;
+    Ok(())
 }
 
 /// A table came. One for another incarnation is dropped, and so is one of an incarnation that is not current.
@@ -152,7 +169,18 @@ pub(crate) fn tabled(
     adopts(work, conn, v, kind, number, keys, values)
 }
 
-/// The acknowledgement of a table came: that of the table that is announced confirms it, and any other one is dropped.
+/// What follows the acknowledgement of a table, once that was confirmed or not. That of another table than the announced one is dropped.
+fn confirms_then(work: &mut Work, conn: u64, answer: Confirmed) -> Result<(), NoMemory>
+    ensures { OnOk result (work.new ≡ confirms_then conn answer work.old) }
+{
+    match answer {
+        Confirmed::Confirmed => Ok(()),
+        Confirmed::NotAnnounced => work.drops(conn, Rule::OldTable),
+    }
+}
+
+/// The acknowledgement of a table came: that of the table that is announced confirms it.
+#[tactic(auto, using(crate::proofs::Same::confirms_so))]
 pub(crate) fn confirms(
     work: &mut Work,
     conn: u64,
@@ -162,8 +190,7 @@ pub(crate) fn confirms(
 ) -> Result<(), NoMemory>
     ensures { OnOk result (work.new ≡ confirms conn v.now kind number work.old) }
 {
-    match work.confirms(v, kind, number) {
-        Confirmed::Confirmed => Ok(()),
-        Confirmed::NotAnnounced => work.drops(conn, Rule::OldTable),
-    }
+    let answer = work.confirms(v, kind, number);
+    confirms_then(work, conn, answer)?;
+    Ok(())
 }

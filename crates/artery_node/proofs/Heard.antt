@@ -12,7 +12,7 @@ use Rattle.artery_delivery.specs.declared.outbound.Acked.{Acked}
 use Rattle.artery_delivery.specs.declared.outbound.Acked.TheVariants.{Cleared, Past}
 use Rattle.artery_delivery.specs.Inbound.{same_origin, expected_of, next_of, is_expected, taking, with_taken}
 use Rattle.artery_delivery.specs.Outbound.{Kept, given, acknowledgement, kept_acknowledged, kept_rewound, kept_refused}
-use Rattle.artery_header.specs.Envelope.{EnvelopeOf, NameOf, Literal, Index}
+use Rattle.artery_header.specs.Envelope.{NameOf, Literal, Index}
 use Rattle.artery_journal.specs.declared.words.Kind.{Kind}
 use Rattle.artery_journal.specs.declared.words.Kind.TheVariants.{Refs, Manifests}
 use Rattle.artery_tables.specs.InTables as announced
@@ -26,8 +26,7 @@ use Rattle.artery_machine.specs.Parts.{kept}
 use Rattle.artery_machine.specs.Node.{Peer, Origin, OfKinds, of_kind, of_each, same_unique, new_peer, is_peer, peer_at, new_origin, is_origin, origin_at}
 use Rattle.artery_machine.specs.Doing.{Doing, in_bytes, becomes, peer_becomes, inbound_becomes, origin_becomes}
 use Rattle.artery_machine.specs.Sending.{with_out}
-use Rattle.artery_machine.specs.Hearing.{with_adopted, with_confirmed, with_shown, with_counted, counts_names}
-use Rattle.artery_peer.specs.Counting.{with_names}
+use Rattle.artery_machine.specs.Hearing.{with_adopted, with_confirmed, with_counted}
 use Rattle.artery_peer.specs.Showing.{with_numbers}
 use Rattle.artery_node.specs.Heard.{taking_at, taken_by, cleared_by, adopted_by, confirmed_by}
 use Rattle.artery_node.proofs.Places.{change_same, change_twice}
@@ -198,15 +197,10 @@ confirmed_so v kind number d w h = h ∙ confirmed_same v kind number d (announc
 -- ---- names
 
 -- Tables are shown by their numbers.
-pub shown_so : (conn : ℕ) (refs manifests : Option ℕ) (v : UniqueAddress) (e : EnvelopeOf) (d w : Doing kept in_bytes)
-    → refs ≡ announced.number_kept (origin_at v d.node).tables.refs e.refs_version
-    → manifests ≡ announced.number_kept (origin_at v d.node).tables.manifests e.manifests_version
-    → w ≡ inbound_becomes conn (with_numbers refs manifests) d
-    → w ≡ inbound_becomes conn (with_shown (origin_at v d.node).tables e) d
-shown_so conn refs manifests v e d w r m h =
-    h
-    ∙ ap (λ (x : Option ℕ). inbound_becomes conn (with_numbers x manifests) d) r
-    ∙ ap (λ (y : Option ℕ). inbound_becomes conn (with_numbers (announced.number_kept (origin_at v d.node).tables.refs e.refs_version) y) d) m
+pub shown_so : (conn : ℕ) (refs manifests r m : Option ℕ) (d w : Doing kept in_bytes)
+    → refs ≡ r → manifests ≡ m → w ≡ inbound_becomes conn (with_numbers refs manifests) d → w ≡ inbound_becomes conn (with_numbers r m) d
+shown_so conn refs manifests r m d w e f h =
+    h ∙ ap (λ (x : Option ℕ). inbound_becomes conn (with_numbers x manifests) d) e ∙ ap (λ (y : Option ℕ). inbound_becomes conn (with_numbers r y) d) f
 
 who_stays : (kind : Kind) (name : NameOf) (o : Origin kept) → (with_counted kind name o).who ≡ o.who
 who_stays kind (Index i) o = refl
@@ -214,11 +208,12 @@ who_stays kind (Literal []) o = refl
 who_stays kind (Literal (b ∷ bs)) o = refl
 
 -- Names that are counted in one go are counted one after the other.
-pub counted_so : (v : UniqueAddress) (e : EnvelopeOf) (d w : Doing kept in_bytes)
-    → w ≡ origin_becomes v (with_names e) d → w ≡ counts_names v e d
-counted_so v e d w h =
+pub counted_so : (v : UniqueAddress) (sender recipient manifest : NameOf) (d w : Doing kept in_bytes)
+    → w ≡ origin_becomes v (λ o. with_counted Manifests manifest (with_counted Refs recipient (with_counted Refs sender o))) d
+    → w ≡ origin_becomes v (with_counted Manifests manifest) (origin_becomes v (with_counted Refs recipient) (origin_becomes v (with_counted Refs sender) d))
+counted_so v sender recipient manifest d w h =
     h ∙ ap (λ (os : List (Origin kept)). record d { node = record d.node { origins = os } })
-    (sym (ap (change_first (is_origin v) (with_counted Manifests e.manifest))
-    (change_twice (is_origin v) (with_counted Refs e.sender) (with_counted Refs e.recipient) d.node.origins (λ o. ap (λ who. same_unique who v) (who_stays Refs e.sender o)))
-    ∙ change_twice (is_origin v) (λ o. with_counted Refs e.recipient (with_counted Refs e.sender o)) (with_counted Manifests e.manifest) d.node.origins
-    (λ o. ap (λ who. same_unique who v) (who_stays Refs e.recipient (with_counted Refs e.sender o) ∙ who_stays Refs e.sender o))))
+    (sym (ap (change_first (is_origin v) (with_counted Manifests manifest))
+    (change_twice (is_origin v) (with_counted Refs sender) (with_counted Refs recipient) d.node.origins (λ o. ap (λ who. same_unique who v) (who_stays Refs sender o)))
+    ∙ change_twice (is_origin v) (λ o. with_counted Refs recipient (with_counted Refs sender o)) (with_counted Manifests manifest) d.node.origins
+    (λ o. ap (λ who. same_unique who v) (who_stays Refs recipient (with_counted Refs sender o) ∙ who_stays Refs sender o))))
