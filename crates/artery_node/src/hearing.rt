@@ -280,12 +280,14 @@ impl Work {
     }
 
     /// The tables announced to an origin by which an envelope was written are shown on the inbound connection with a number.
-    #[tactic(auto, using(crate::proofs::Heard::shown_so))]
     pub fn shows(&mut self, conn: u64, v: &UniqueAddress, envelope: Envelope<'_>)
         ensures { self.new ≡ inbound_becomes conn (with_shown (origin_at v.now self.old.node).tables (envelope_of envelope.entry)) self.old }
     {
-        let (refs, manifests) =
-            self.numbers_of(v, envelope.refs_version, envelope.manifests_version);
+        let (refs, manifests) = self.numbers_of(
+            v,
+            envelope.refs_version,
+            envelope.manifests_version,
+        );
         self.show(conn, refs, manifests);
     }
 
