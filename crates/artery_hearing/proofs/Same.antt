@@ -1,13 +1,12 @@
 -- The rules of a frame, by an inbound connection or by its number and what is known there.
-use Rattle.std.proofs.Common.{◌≡◌, ℕ, Bool, true, false, cond, List, [], ◌∷◌, refl, ap, sym, ◌∙◌, true≢false, arith}
-use Rattle.std.specs.Prelude.{Option, Some, None, Result, Ok, Err, nat_lt, ◌==◌}
+use Rattle.std.proofs.Common.{◌≡◌, ℕ, Bool, true, false, cond, List, [], ◌∷◌, refl, ap, sym, ◌∙◌, arith}
+use Rattle.std.specs.Prelude.{Option, Some, None, Result, Ok, Err, ◌==◌}
 use Rattle.std.specs.List.{find}
 use Rattle.std.specs.Option.{option_map}
 use Rattle.std.proofs.lemmas.Bool.Decides.{nat_tests}
 use Rattle.artery_base.specs.declared.address.Address.{Address}
 use Rattle.artery_base.specs.declared.address.UniqueAddress.{UniqueAddress}
 use Rattle.artery_base.specs.declared.message.SysMsg.{SysMsg}
-use Rattle.artery_control.specs.declared.control.Control.{Control}
 use Rattle.artery_control.specs.declared.control.Control.TheVariants as controls
 use Rattle.artery_delivery.specs.declared.inbound.Take.{Take}
 use Rattle.artery_delivery.specs.declared.inbound.Take.TheVariants.{Taken, Again, Gap}
@@ -27,17 +26,17 @@ use Rattle.artery_tables.specs.declared.in_tables.Confirmed.{Confirmed}
 use Rattle.artery_tables.specs.declared.in_tables.Confirmed.TheVariants as confirming
 use Rattle.artery_tables.specs.InTables.{confirming as announced}
 use Rattle.artery_tables.specs.OutTable.{adopting as newer}
-use Rattle.artery_verdict.specs.Heard.{read_heard, frame_heard}
+use Rattle.artery_verdict.specs.Heard.{read_heard}
 use Rattle.artery_machine.specs.Lists.{or_else}
 use Rattle.artery_machine.specs.Parts.{kept}
-use Rattle.artery_machine.specs.Node.{Node, Inbound, Origin, OfKinds, of_kind, new_origin, is_origin, is_number, inbound_at, speaker_in, peer_at, origin_at}
+use Rattle.artery_machine.specs.Node.{Node, Inbound, Origin, of_kind, new_origin, is_origin, is_number, inbound_at, speaker_in, peer_at, origin_at}
 use Rattle.artery_machine.specs.Doing.{Doing, in_bytes}
-use Rattle.artery_machine.specs.Verdict.{Content, Ordinary, Controls, Verdict, Dropped, OfClosed, Says, read_said, content_in, tables_for, is_shut, judged, verdict}
+use Rattle.artery_machine.specs.Verdict.{Content, Ordinary, Controls, Verdict, Dropped, OfClosed, Says, read_said, tables_for, is_shut, judged, verdict}
 use Rattle.artery_machine.specs.Handshaking.{requested}
 use Rattle.artery_machine.specs.Hearing.{numbered_as, numbered, acked_as, acked, nacked, adopts_as, adopts, confirms_as, confirms, heard_as, hears_on, hears}
 use Rattle.artery_machine.specs.Watching.{Told, told_of, acts_as, acts}
 use Rattle.artery_node.specs.Heard.{taken_by, cleared_by, adopted_by, confirmed_by}
-use Rattle.artery_hearing.specs.Heard.{numbered_then, acked_then, cleared_then, adopts_then, confirms_then, requested_on, handles_on, heard_with, heard_on, heard_where, origin_in, tables_of}
+use Rattle.artery_hearing.specs.Heard.{numbered_then, acked_then, adopts_then, confirms_then, requested_on, handles_on, heard_with, heard_on, heard_where, origin_in, tables_of}
 
 -- ---- what a frame is
 

@@ -28,7 +28,7 @@ use Rattle.artery_tables.specs.InTables.{Kept, nothing_kept}
 use Rattle.artery_verdict.specs.Heard.{frame_heard}
 use Rattle.artery_machine.specs.Parts.{kept}
 use Rattle.artery_machine.specs.Node.{Node, Inbound, Origin, OfKinds, of_each, inbound_at, is_origin, speaker_in, nonce_in, origin_at}
-use Rattle.artery_machine.specs.Doing.{Rule, in_bytes, ◌▸◌, stays, tells_of, peer_becomes, inbound_becomes, origin_becomes}
+use Rattle.artery_machine.specs.Doing.{Rule, in_bytes, ◌▸◌, tells_of, peer_becomes, inbound_becomes, origin_becomes}
 use Rattle.artery_machine.specs.Making.{uses}
 use Rattle.artery_machine.specs.Closing.{on_control}
 use Rattle.artery_machine.specs.Sending.{pumps}

@@ -1,5 +1,5 @@
 //! What a frame is, and what its message does.
-ghost use Rattle.std.specs.Prelude.{◌≡◌, length, find, IfOk, OnOk, Some, None};
+ghost use Rattle.std.specs.Prelude.{◌≡◌, IfOk, OnOk, Some, None};
 ghost use Rattle.std.specs.Option.{option_copied, option_map};
 ghost use Rattle.artery_control.specs.Valid.{IsValid};
 ghost use Rattle.artery_handshake.specs.declared.in_conn.InState.{InState};
@@ -102,7 +102,9 @@ fn controlled(
             tabled(work, conn, v, Kind::Refs, origin_uid, number, keys, values)
         }
         Control::RefsAck {
-            version, sequence, ..
+            version,
+            sequence,
+            ..
         } => confirms(work, conn, v, Kind::Refs, table_number(version, sequence)),
         Control::ManifestsTable {
             origin_uid,
@@ -114,11 +116,28 @@ fn controlled(
         } => {
             work.uses(&v.address)?;
             let number = table_number(version, sequence);
-            tabled(work, conn, v, Kind::Manifests, origin_uid, number, keys, values)
+            tabled(
+                work,
+                conn,
+                v,
+                Kind::Manifests,
+                origin_uid,
+                number,
+                keys,
+                values,
+            )
         }
         Control::ManifestsAck {
-            version, sequence, ..
-        } => confirms(work, conn, v, Kind::Manifests, table_number(version, sequence)),
+            version,
+            sequence,
+            ..
+        } => confirms(
+            work,
+            conn,
+            v,
+            Kind::Manifests,
+            table_number(version, sequence),
+        ),
         Control::Numbered { n, message, .. } => {
             work.uses(&v.address)?;
             numbered(work, v, n, message)
@@ -175,12 +194,7 @@ fn spoken(
 }
 
 /// What a message does of the origin that is known to speak on a connection. Nobody speaks on one that is not known.
-fn speaks(
-    work: &mut Work,
-    conn: u64,
-    state: &InState,
-    content: Content<'_>,
-) -> Result<(), NoMemory>
+fn speaks(work: &mut Work, conn: u64, state: &InState, content: Content<'_>) -> Result<(), NoMemory>
     requires { IsGood content }
     ensures { OnOk result (work.new ≡ speaks conn state.now (content_told content.entry) work.old) }
 {
@@ -219,11 +233,13 @@ fn handles(
         Content::Control(Control::HandshakeReq { from, to, nonce }) => {
             meets(work, conn, &from, &to, nonce)
         }
-        Content::Control(Control::HandshakeRsp {
-            from,
-            for_uid,
-            nonce,
-        }) => answered(work, &from, for_uid, nonce),
+        Content::Control(
+            Control::HandshakeRsp {
+                from,
+                for_uid,
+                nonce,
+            },
+        ) => answered(work, &from, for_uid, nonce),
         content => speaks(work, conn, state, content),
     }
 }
@@ -254,12 +270,7 @@ fn is_shut(work: &Work, state: &InState) -> bool
 }
 
 /// What a frame does by what it says. Of a closed origin all but a handshake is dropped.
-fn says(
-    work: &mut Work,
-    conn: u64,
-    state: &InState,
-    content: Content<'_>,
-) -> Result<(), NoMemory>
+fn says(work: &mut Work, conn: u64, state: &InState, content: Content<'_>) -> Result<(), NoMemory>
     requires { IsGood content }
     ensures { OnOk result (work.new ≡ heard_with conn state.now (judged (is_shut work.old.node (speaker_in state.now)) (Ok (content_told content.entry))) work.old) }
 {

@@ -1,11 +1,10 @@
 //! Numbered messages and their acknowledgements.
 ghost use Rattle.std.specs.Prelude.{◌≡◌, OnOk, true, false};
-ghost use Rattle.artery_delivery.specs.Inbound.{taking};
 ghost use Rattle.artery_delivery.specs.Outbound.{acknowledgement};
 ghost use Rattle.artery_journal.specs.declared.line.Line.TheVariants as lines;
 ghost use Rattle.artery_machine.specs.Parts.{kept};
 ghost use Rattle.artery_machine.specs.Doing.{in_bytes, tells_of};
-ghost use Rattle.artery_machine.specs.Watching.{acts, acts_as};
+ghost use Rattle.artery_machine.specs.Watching.{acts};
 ghost use Rattle.artery_machine.specs.Hearing.{acknowledges_on, acknowledges, numbered, of_current, acked, nacked};
 ghost use Rattle.artery_hearing.specs.Heard.{ack_of, answers, numbered_then, acked_then, cleared_then};
 ghost use Rattle.artery_notices.specs.Telling.{told};
@@ -58,12 +57,7 @@ fn acknowledges(work: &mut Work, v: &UniqueAddress, missing: bool) -> Result<(),
 }
 
 /// It is told that a message was taken.
-fn tells_took(
-    work: &mut Work,
-    v: &UniqueAddress,
-    n: u64,
-    message: SysMsg,
-) -> Result<(), NoMemory>
+fn tells_took(work: &mut Work, v: &UniqueAddress, n: u64, message: SysMsg) -> Result<(), NoMemory>
     ensures { OnOk result (work.new ≡ tells_of (λ me. lines.Took me v.now n message) work.old) }
 {
     let of = work.me().clone()?;
@@ -146,12 +140,7 @@ pub(crate) fn numbered(
 }
 
 /// What follows an acknowledgement of so many messages: the peer was heard of, and what may be written is.
-fn cleared_then(
-    work: &mut Work,
-    v: &UniqueAddress,
-    again: bool,
-    count: u64,
-) -> Result<(), NoMemory>
+fn cleared_then(work: &mut Work, v: &UniqueAddress, again: bool, count: u64) -> Result<(), NoMemory>
     ensures { OnOk result (work.new ≡ cleared_then v.now again count work.old) }
 {
     work.heard_back(&v.address, count > 0, again);

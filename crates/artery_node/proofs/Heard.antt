@@ -2,7 +2,6 @@
 use Rattle.std.proofs.Common.{◌≡◌, ℕ, ◌+◌, Bool, true, false, cond, List, [], ◌∷◌, refl, ap, sym, ◌∙◌, true≢false, arith}
 use Rattle.std.specs.Prelude.{Option, Some, None, is_some, unwrap_or, nat_lt, ◌-◌, if◌then◌else◌}
 use Rattle.std.specs.Map.{lookup, set_value}
-use Rattle.std.specs.List.{find}
 use Rattle.std.proofs.lemmas.Bool.Decides.{nat_tests}
 use Rattle.artery_base.specs.declared.address.Address.{Address}
 use Rattle.artery_base.specs.declared.address.UniqueAddress.{UniqueAddress}
@@ -23,7 +22,7 @@ use Rattle.artery_tables.specs.declared.in_tables.Confirmed.{Confirmed}
 use Rattle.artery_tables.specs.declared.in_tables.Confirmed.TheVariants as confirming
 use Rattle.artery_machine.specs.Lists.{or_else, change_first}
 use Rattle.artery_machine.specs.Parts.{kept}
-use Rattle.artery_machine.specs.Node.{Peer, Origin, OfKinds, of_kind, of_each, same_unique, new_peer, is_peer, peer_at, new_origin, is_origin, origin_at}
+use Rattle.artery_machine.specs.Node.{Peer, Origin, of_kind, of_each, same_unique, new_peer, is_peer, peer_at, new_origin, is_origin, origin_at}
 use Rattle.artery_machine.specs.Doing.{Doing, in_bytes, becomes, peer_becomes, inbound_becomes, origin_becomes}
 use Rattle.artery_machine.specs.Sending.{with_out}
 use Rattle.artery_machine.specs.Hearing.{with_adopted, with_confirmed, with_counted}
