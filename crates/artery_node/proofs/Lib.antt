@@ -8,3 +8,4 @@ pub mod Advertising
 pub mod Unwatched
 pub mod Sent
 pub mod Inserted
+pub mod Heard

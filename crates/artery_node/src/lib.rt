@@ -12,6 +12,7 @@ mod copies;
 mod deeds;
 mod due;
 mod finding;
+mod hearing;
 mod making;
 mod sending;
 mod watching;

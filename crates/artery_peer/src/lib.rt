@@ -6,6 +6,7 @@
 mod coming;
 mod connection;
 mod due;
+mod hearing;
 mod inbound;
 mod origin;
 mod peer;
