@@ -5,10 +5,12 @@
 
 mod connection;
 mod inbound;
+mod meeting;
 mod origin;
 mod peer;
 
 pub use connection::{bound_dial, dial_asked, dial_of, dial_to, has_dial};
 pub use inbound::Inbound;
+pub use meeting::answer_on;
 pub use origin::Origin;
 pub use peer::Peer;
