@@ -11,6 +11,7 @@ mod copies;
 mod deeds;
 mod finding;
 mod making;
+mod meeting;
 mod sending;
 mod watching;
 mod work;
