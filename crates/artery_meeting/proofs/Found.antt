@@ -21,14 +21,18 @@ passes {X} test (y ∷ ys) x h = by (test y) refl h (passes test ys x)
     by true e h rest = let same : y ≡ x = cc in ap test (sym same) ∙ e
     by false e h rest = rest h
 
+some_same : {X : Type 0} (x y : X) → Some x ≡ Some y → x ≡ y
+some_same x y h = cc
+
 has_number : (number : ℕ) (is : List (Inbound kept)) (i : Inbound kept) → find (is_number number) is ≡ Some i → i.number ≡ number
 has_number number is i h = let same : (i.number == number) ≡ true = passes (is_number number) is i h in grind (arith, nat_tests)
 
--- What is done by the number of the connection is what is done by the connection.
-pub is_requested : (number : ℕ) (i : Inbound kept) (v : UniqueAddress) (to : Address) (its_nonce : Option ℕ) (answer : OnReq) (rule : Option DropRule) (d e : Doing kept in_bytes)
-    → inbound_at number d.node ≡ Some i → answer ≡ answer_to_req v its_nonce i.state → rule ≡ rule_for d.node answer v to
+-- What is done by the number of the connection, once it was read, is what is done by the connection.
+pub is_requested : (number : ℕ) (i j : Inbound kept) (v : UniqueAddress) (to : Address) (its_nonce : Option ℕ) (answer : OnReq) (rule : Option DropRule) (d e : Doing kept in_bytes)
+    → inbound_at number d.node ≡ Some i → Some j ≡ inbound_at number d.node → answer ≡ answer_to_req v its_nonce j.state → rule ≡ rule_for d.node answer v to
     → e ≡ drops_or number rule (is_asked number v its_nonce) d → e ≡ requested i v to its_nonce d
-is_requested number i v to its_nonce answer rule d e found is first done =
+is_requested number i j v to its_nonce answer rule d e found read is first done =
+    let same : j ≡ i = some_same j i (read ∙ found) in
     done
-    ∙ ap (λ r. drops_or number r (is_asked number v its_nonce) d) (first ∙ ap (λ a. rule_for d.node a v to) is)
+    ∙ ap (λ r. drops_or number r (is_asked number v its_nonce) d) (first ∙ ap (λ a. rule_for d.node a v to) (is ∙ ap (λ (x : Inbound kept). answer_to_req v its_nonce x.state) same))
     ∙ ap (λ n. drops_or n (request_rule d.node i v to its_nonce) (is_asked n v its_nonce) d) (sym (has_number number d.node.inbound i found))

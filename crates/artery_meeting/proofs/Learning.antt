@@ -4,6 +4,7 @@ use Rattle.std.specs.Prelude.{Option, Some, None, find, ◌==◌, ◌||◌, nat_
 use Rattle.std.specs.List.{list_any}
 use Rattle.std.proofs.lemmas.List.Folds.{list_any-append}
 use Rattle.std.proofs.lemmas.Bool.Decides.{nat_tests}
+use Rattle.std.proofs.lemmas.List.{length-append}
 use Rattle.artery_base.specs.declared.address.Address.{Address}
 use Rattle.artery_base.specs.declared.address.UniqueAddress.{UniqueAddress}
 use Rattle.artery_assoc.specs.Peer.{PeerState, is_closed, is_current, is_that, is_full, learning, closing, peer_closed, peer_after_close}
@@ -65,8 +66,7 @@ with_room uid p r = by (is_closed uid p) (is_current uid p) (is_full p) r.closed
     by false false false a b c = refl
 
 length_last : (x : ℕ) (xs : List ℕ) → length (xs ++ x ∷ []) ≡ length xs + 1
-length_last x [] = refl
-length_last x (y ∷ ys) = ap suc (length_last x ys)
+length_last x xs = length-append xs (x ∷ [])
 
 -- Closing a former UID leaves that so.
 closed_keeps : (uid former : ℕ) (address : Address) (current : Option ℕ) (closed : List ℕ)
@@ -116,7 +116,7 @@ found_keeps address uid f (p ∷ ps) other there keep r = by (is_peer address p)
     by true e r rest = let passes : is_peer address (f p) ≡ true = there p ∙ e in rw passes (keep p r)
     by false e r rest = rw e (rest r)
 
-RoomAt : ℕ → Address → Node kept → Type 0
+abbrev RoomAt : ℕ → Address → Node kept → Type 0
 RoomAt uid address n = Room uid (peer_at address n).incarnations
 
 moved : (uid : ℕ) (address : Address) (n m : Node kept) → m ≡ n → RoomAt uid address n → RoomAt uid address m

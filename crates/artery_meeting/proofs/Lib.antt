@@ -3,3 +3,4 @@ pub mod Owing
 pub mod Found
 pub mod Waiting
 pub mod Learning
+pub mod Dials

@@ -1,7 +1,8 @@
 -- Messages that waited, told one after the other.
-use Rattle.std.proofs.Common.{◌≡◌, ℕ, zero, suc, ◌+◌, ◌<◌, ◌≤◌, List, [], ◌∷◌, length, drop, get_or, refl, ap, sym, ◌∙◌, arith}
+use Rattle.std.proofs.Common.{◌≡◌, ℕ, Bool, true, false, zero, suc, ◌+◌, ◌<◌, ◌≤◌, List, [], ◌∷◌, length, drop, get_or, refl, ap, sym, ◌∙◌, arith}
 use Rattle.std.specs.Prelude.{Option, Some, None, slice_get, ◌==◌, ◌-◌, if◌then◌else◌}
 use Rattle.std.proofs.lemmas.Option.{get_or_from_slice_get, slice_get_within, slice_get-get_or}
+use Rattle.std.proofs.lemmas.Bool.Decides.{nat_tests}
 use Rattle.std.proofs.lemmas.List.{drop_all}
 use Rattle.artery_base.specs.declared.address.Address.{Address}
 use Rattle.artery_base.specs.declared.message.SysMsg.{SysMsg}
@@ -18,7 +19,11 @@ abbrev pub waiting_at : Address → Node kept → List SysMsg
 waiting_at address n = (peer_at address n).out.messages
 
 at_place : (told : ℕ) (k : Kept) → kept_message (told + 1) k ≡ slice_get k.messages told
-at_place told k = let next : told + 1 ≡ suc told = omega arith in rw next refl
+at_place told k = by (told + 1 == 0) refl
+  where
+    by : (b : Bool) → (told + 1 == 0) ≡ b → (if b then None else slice_get k.messages (told + 1 - 1)) ≡ slice_get k.messages told
+    by true e = absurd (grind (arith, nat_tests))
+    by false e = let back : told + 1 - 1 ≡ told = omega arith in ap (slice_get k.messages) back
 
 -- One message more is told.
 pub next_told : (address : Address) (uid told : ℕ) (m : SysMsg) (d e f : Doing kept in_bytes) (n : Node kept) → Some m ≡ kept_message (told + 1) (peer_at address d.node).out → d.node ≡ n

@@ -3,7 +3,10 @@ ghost use Rattle.std.specs.Prelude.{◌≡◌, OnOk, IfOk, Some, map};
 ghost use Rattle.artery_machine.specs.Parts.{kept};
 ghost use Rattle.artery_machine.specs.Doing.{in_bytes, each};
 ghost use Rattle.artery_machine.specs.Handshaking.{response, writes_answer, answers_all, answers_after, begins, dialed, lost};
+ghost use Rattle.artery_machine.specs.Node.{peer_dialed};
+ghost use Rattle.artery_meeting.specs.Dials.{dialed_peer, dialed_by, lost_by};
 ghost use Rattle.artery_meeting.specs.Owing.{speaks_at, owed_on, answers_one};
+ghost use Rattle.std.specs.Option.{option_map};
 
 use artery_base::{Address, NoMemory, UniqueAddress};
 use artery_control::Control;
@@ -11,7 +14,7 @@ use artery_frame::Stream;
 use artery_handshake::InState;
 use artery_machine::Answer;
 use artery_node::Work;
-use artery_peer::Inbound;
+use artery_peer::{Inbound, Peer};
 use std::alloc::Global;
 
 /// What is owed on an inbound connection: its number, the answer, and whether the one that asked is at the address that was dialed.
@@ -132,6 +135,13 @@ fn answers_after(
 
 // ---- dials
 
+/// The same address.
+fn copy_of(address: &Address) -> Result<Address, NoMemory>
+    ensures { IfOk result (λ copy. copy ≡ address.now) }
+{
+    Ok(address.clone()?)
+}
+
 /// A connection that is up begins with what it carries and asks; on the control connection the answers that are owed follow.
 fn begins(work: &mut Work, stream: Stream, address: &Address, dial: u64) -> Result<(), NoMemory>
     ensures { OnOk result (work.new ≡ begins stream address.now dial work.old) }
@@ -143,32 +153,76 @@ fn begins(work: &mut Work, stream: Stream, address: &Address, dial: u64) -> Resu
     Ok(())
 }
 
+/// What is known of the connection with a dial number: the address of its peer, what it carries, and whether it is not up yet.
+#[derive(Debug, Drop)]
+pub(crate) struct DialedPeer {
+    pub(crate) address: Address,
+    pub(crate) stream: Stream,
+    pub(crate) waits: bool,
+}
+
+/// That of a peer, one of whose connections has the dial number.
+fn dialed_peer(dial: u64, peer: &Peer) -> Result<DialedPeer, NoMemory>
+    ensures { IfOk result (λ found. found ≡ dialed_peer dial peer.now) }
+{
+    let stream = peer.stream_dialed(dial);
+    Ok(DialedPeer {
+        address: copy_of(peer.address())?,
+        stream,
+        waits: peer.waits_for_dial(stream),
+    })
+}
+
+/// That of the peer one of whose connections has the dial number, where there is one.
+fn find_dialed(work: &Work, dial: u64) -> Result<Option<DialedPeer>, NoMemory>
+    ensures { IfOk result (λ found. found ≡ option_map (dialed_peer dial) (peer_dialed dial work.now.node)) }
+{
+    match work.peer_dialed(dial) {
+        None => Ok(None),
+        Some(peer) => Ok(Some(dialed_peer(dial, peer)?)),
+    }
+}
+
+/// A connection that waits for its dial begins. A dial that nobody waits for is hung up.
+fn dialed_by(work: &mut Work, dial: u64, found: Option<DialedPeer>) -> Result<(), NoMemory>
+    ensures { OnOk result (work.new ≡ dialed_by dial found work.old) }
+{
+    let Some(found) = found else {
+        return work.hang_up(Some(dial));
+    };
+    if !found.waits {
+        return work.hang_up(Some(dial));
+    }
+    begins(work, found.stream, &found.address, dial)
+}
+
 /// The dial with this number is up: its connection begins with what it carries, and asks who is there; on the control connection the answers
 /// that are owed follow. A dial that nobody waits for is hung up.
+#[tactic(auto, using(crate::proofs::Dials::is_dialed))]
 pub fn dialed(work: &mut Work, dial: u64) -> Result<(), NoMemory>
     ensures { OnOk result (work.new ≡ dialed dial work.old) }
 {
-    let Some(peer) = work.peer_dialed(dial) else {
-        return work.hang_up(Some(dial));
-    };
-    let stream = peer.stream_dialed(dial);
-    if !peer.waits_for_dial(stream) {
-        return work.hang_up(Some(dial));
-    }
-    let address = peer.address().clone()?;
-    begins(work, stream, &address, dial)?;
+    let found = find_dialed(work, dial)?;
+    dialed_by(work, dial, found)?;
     Ok(())
 }
 
+/// A connection that failed or ended is gone, and may be dialed again 1,000 ms from now.
+fn lost_by(work: &mut Work, found: Option<DialedPeer>)
+    ensures { work.new ≡ lost_by found work.old }
+{
+    let Some(found) = found else {
+        return;
+    };
+    work.loses(found.stream, &found.address);
+}
+
 /// The connection with this dial number failed or ended: it is gone, and may be dialed again 1,000 ms from now.
+#[tactic(auto, using(crate::proofs::Dials::is_lost))]
 pub fn lost(work: &mut Work, dial: u64) -> Result<(), NoMemory>
     ensures { OnOk result (work.new ≡ lost dial work.old) }
 {
-    let Some(peer) = work.peer_dialed(dial) else {
-        return Ok(());
-    };
-    let stream = peer.stream_dialed(dial);
-    let address = peer.address().clone()?;
-    work.loses(stream, &address);
+    let found = find_dialed(work, dial)?;
+    lost_by(work, found);
     Ok(())
 }
