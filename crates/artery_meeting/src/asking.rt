@@ -154,7 +154,6 @@ fn drops_or_takes(
 
 /// A handshake request of an incarnation to an address came on the inbound connection with a number: it is dropped by the first rule that
 /// does so, or taken and answered. Where there is no such connection, nothing is done.
-#[tactic(auto, using(crate::proofs::Found::is_requested))]
 pub fn requested(
     work: &mut Work,
     number: u64,

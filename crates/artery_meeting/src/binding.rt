@@ -31,7 +31,7 @@ fn message_at(work: &Work, address: &Address, place: u64) -> Result<Option<SysMs
 }
 
 /// The messages that waited are told as sent.
-#[tactic(auto, using(crate::proofs::Waiting::next_told, crate::proofs::Waiting::none_there, crate::proofs::Waiting::all_told))]
+#[tactic(auto, using(crate::proofs::Waiting::none_there, crate::proofs::Waiting::all_told))]
 fn tells_waiting(work: &mut Work, address: &Address, uid: u64) -> Result<(), NoMemory>
     ensures { OnOk result (work.new ≡ tells_waiting address.now uid work.old) }
 {
