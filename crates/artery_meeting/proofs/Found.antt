@@ -1,6 +1,6 @@
 -- The inbound connection that is found by its number.
 use Rattle.std.proofs.Common.{◌≡◌, ℕ, Bool, true, false, cond, List, [], ◌∷◌, refl, ap, sym, ◌∙◌, arith}
-use Rattle.std.specs.Prelude.{Option, Some, None, find, ◌==◌}
+use Rattle.std.specs.Prelude.{Option, Some, find, ◌==◌}
 use Rattle.std.proofs.lemmas.Bool.Decides.{nat_tests}
 use Rattle.artery_base.specs.declared.address.Address.{Address}
 use Rattle.artery_base.specs.declared.address.UniqueAddress.{UniqueAddress}
@@ -8,7 +8,7 @@ use Rattle.artery_handshake.specs.declared.in_conn.OnReq.{OnReq}
 use Rattle.artery_handshake.specs.Incoming.{answer_to_req}
 use Rattle.artery_journal.specs.declared.rule.Rule.{Rule as DropRule}
 use Rattle.artery_machine.specs.Parts.{kept}
-use Rattle.artery_machine.specs.Node.{Node, Inbound, is_number, inbound_at}
+use Rattle.artery_machine.specs.Node.{Inbound, is_number, inbound_at}
 use Rattle.artery_machine.specs.Doing.{Doing, in_bytes}
 use Rattle.artery_machine.specs.Handshaking.{drops_or, is_asked, requested, request_rule}
 use Rattle.artery_meeting.specs.Dropping.{rule_for}

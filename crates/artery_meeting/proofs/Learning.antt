@@ -1,6 +1,6 @@
 -- What stays of a UID that would be learnt, once the former incarnation is closed.
-use Rattle.std.proofs.Common.{◌≡◌, ℕ, suc, Bool, true, false, cond, List, [], ◌∷◌, ◌++◌, length, ◌+◌, refl, ap, sym, ◌∙◌, arith}
-use Rattle.std.specs.Prelude.{Option, Some, None, find, ◌==◌, ◌||◌, nat_le, option_to_list, if◌then◌else◌}
+use Rattle.std.proofs.Common.{◌≡◌, ℕ, Bool, true, false, cond, List, [], ◌∷◌, ◌++◌, length, ◌+◌, refl, ap, sym, ◌∙◌, arith}
+use Rattle.std.specs.Prelude.{Option, Some, None, find, ◌==◌, ◌||◌, nat_le, if◌then◌else◌}
 use Rattle.std.specs.List.{list_any}
 use Rattle.std.proofs.lemmas.List.Folds.{list_any-append}
 use Rattle.std.proofs.lemmas.Bool.Decides.{nat_tests}
@@ -9,21 +9,18 @@ use Rattle.artery_base.specs.declared.address.Address.{Address}
 use Rattle.artery_base.specs.declared.address.UniqueAddress.{UniqueAddress}
 use Rattle.artery_assoc.specs.Peer.{PeerState, is_closed, is_current, is_that, is_full, learning, closing, peer_closed, peer_after_close}
 use Rattle.artery_assoc.specs.Limits.{most_incarnations}
-use Rattle.artery_assoc.specs.declared.peer.Learn.{Learn}
 use Rattle.artery_assoc.specs.declared.peer.Learn.TheVariants.{Learnt, Same, WasClosed, ClosedFull}
 use Rattle.artery_assoc.specs.declared.peer.Close.{Close}
 use Rattle.artery_assoc.specs.declared.peer.Close.TheVariants.{Closed, AlreadyClosed, NotCurrent}
-use Rattle.artery_control.specs.declared.control.Control.TheVariants as controls
 use Rattle.artery_frame.specs.declared.stream.Stream.TheVariants.{Ordinary}
 use Rattle.artery_journal.specs.declared.line.Line.TheVariants as lines
 use Rattle.artery_journal.specs.declared.words.Cause.TheVariants as causes
-use Rattle.artery_machine.specs.Deeds.{Writing, Controls}
 use Rattle.artery_machine.specs.Lists.{or_else, change_first}
 use Rattle.artery_machine.specs.Parts.{kept}
 use Rattle.artery_machine.specs.Node.{Peer, Node, new_peer, is_peer, same_address, peer_at, current_of, conn_of, incarnation, with_link}
 use Rattle.artery_machine.specs.Making.{link_gone}
-use Rattle.artery_machine.specs.Doing.{Doing, in_bytes, stays, each, tells_of, writes_on, hangs_up, peer_becomes}
-use Rattle.artery_machine.specs.Closing.{dial_of, control_dial, with_closed, without_detector, with_new_tables, quarantines, drops_ordinary, forgets_watches_of, terminates_at, closes, closes_current}
+use Rattle.artery_machine.specs.Doing.{Doing, in_bytes, stays, each, tells_of, hangs_up, peer_becomes}
+use Rattle.artery_machine.specs.Closing.{dial_of, with_closed, without_detector, with_new_tables, drops_ordinary, forgets_watches_of, terminates_at, closes, closes_current}
 use Rattle.artery_watch.specs.Watcher.{ids_at}
 
 -- A UID is learnt, and not the same, closed or refused.

@@ -1,6 +1,6 @@
 -- Messages that waited, told one after the other.
-use Rattle.std.proofs.Common.{◌≡◌, ℕ, Bool, true, false, zero, suc, ◌+◌, ◌<◌, ◌≤◌, List, [], ◌∷◌, length, drop, get_or, refl, ap, sym, ◌∙◌, arith}
-use Rattle.std.specs.Prelude.{Option, Some, None, slice_get, ◌==◌, ◌-◌, if◌then◌else◌}
+use Rattle.std.proofs.Common.{◌≡◌, ℕ, Bool, true, false, suc, ◌+◌, ◌<◌, ◌≤◌, List, [], ◌∷◌, length, drop, get_or, refl, ap, sym, ◌∙◌, arith}
+use Rattle.std.specs.Prelude.{Some, None, slice_get, ◌==◌, ◌-◌, if◌then◌else◌}
 use Rattle.std.proofs.lemmas.Option.{get_or_from_slice_get, slice_get_within, slice_get-get_or}
 use Rattle.std.proofs.lemmas.Bool.Decides.{nat_tests}
 use Rattle.std.proofs.lemmas.List.{drop_all}
@@ -11,7 +11,7 @@ use Rattle.artery_machine.specs.Parts.{kept}
 use Rattle.artery_machine.specs.Node.{Node, peer_at}
 use Rattle.artery_machine.specs.Doing.{Doing, in_bytes}
 use Rattle.artery_machine.specs.Sending.{tells_sent}
-use Rattle.artery_machine.specs.Handshaking.{tells_all_sent, tells_waiting}
+use Rattle.artery_machine.specs.Handshaking.{tells_all_sent}
 use Rattle.artery_meeting.proofs.Each.{drop_one}
 
 -- The messages that are kept for the peer at an address or wait.
