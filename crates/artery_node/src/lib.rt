@@ -14,6 +14,7 @@ mod due;
 mod finding;
 mod hearing;
 mod making;
+mod meeting;
 mod sending;
 mod watching;
 mod work;

@@ -66,7 +66,7 @@ impl Work {
     }
 
     /// How many system messages are kept for the peer at an address or wait.
-    fn kept_at(&self, address: &Address) -> u64
+    pub fn kept_at(&self, address: &Address) -> u64
         ensures { result ≡ length (peer_at address.now self.now.node).out.messages }
     {
         match self.peer(address) {

@@ -8,11 +8,13 @@ mod connection;
 mod due;
 mod hearing;
 mod inbound;
+mod meeting;
 mod origin;
 mod peer;
 
 pub use connection::{bound_dial, dial_asked, dial_of, dial_to, has_dial};
 pub use due::{answer_to_tick, is_due};
 pub use inbound::Inbound;
+pub use meeting::answer_on;
 pub use origin::Origin;
 pub use peer::Peer;
