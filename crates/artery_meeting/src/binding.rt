@@ -55,7 +55,7 @@ fn owes_ack(work: &Work, v: &UniqueAddress) -> bool
 {
     match work.origin(v) {
         None => false,
-        Some(origin) => origin.owes_ack(),
+        Some(origin) => origin.is_owed_ack(),
     }
 }
 

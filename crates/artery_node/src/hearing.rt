@@ -58,19 +58,7 @@ fn adopting_first(number: u64) -> Adopted
 }
 
 impl Work {
-    /// What gives memory to the node.
-    pub fn alloc(&self) -> Global {
-        self.alloc
-    }
-
     // ---- what was taken
-
-    /// The number of the last message taken from an origin, 0 where none was.
-    pub fn last_taken(&self, v: &UniqueAddress) -> u64
-        ensures { result ≡ next_of v.now self.now.node.taken - 1 }
-    {
-        self.taken.last_taken(v)
-    }
 
     /// A numbered message came of an origin: the expected one is taken, and else nothing changes.
     #[tactic(auto, using(crate::proofs::Heard::taken_so, crate::proofs::Heard::unknown_taking, crate::proofs::Heard::unknown_taken))]

@@ -20,11 +20,6 @@ use std::alloc::Global;
 const MOST_ORIGINS: usize = 1_024;
 
 impl Work {
-    /// Where its memory comes from.
-    pub fn alloc(&self) -> Global {
-        self.alloc
-    }
-
     // ---- own connections
 
     /// The connection to the peer at an address that carries this is up, where there is one.

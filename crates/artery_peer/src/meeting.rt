@@ -235,7 +235,7 @@ impl Inbound {
 
 impl Origin {
     /// Whether an acknowledgement is owed to it.
-    pub fn owes_ack(&self) -> bool
+    pub fn is_owed_ack(&self) -> bool
         ensures { result ≡ self.now.owes }
     {
         self.owes
