@@ -35,10 +35,9 @@ pub does_as_whole : (law : (input : Input) (n : Node kept) (w : Node whole) → 
     (input : Input) (old new : Node kept) (before after : List Effect) → new ≡ (step input old).node → after ≡ before ++ effects_of old.me.uid (step input old).deeds
     → DoesAsWhole input old new before after
 does_as_whole law input old new before after is told w h =
-    let same : DoSame (step input old) (step input w) = law input old w h in
-    (
-    told
-    ∙ ap (λ (n : ℕ). before ++ effects_of n (step input old).deeds) (ap (λ me. me.uid) h.me)
-    ∙ ap (λ deeds. before ++ effects_of w.me.uid deeds) same.deeds,
-    subst (λ x. NodeStands x (step input w).node) (sym is) same.stands
+    let same : DoSame (step input old) (step input w) = law input old w h in (
+      told
+          ∙ ap (λ (n : ℕ). before ++ effects_of n (step input old).deeds) (ap (λ me. me.uid) h.me)
+          ∙ ap (λ deeds. before ++ effects_of w.me.uid deeds) same.deeds,
+      subst (λ x. NodeStands x (step input w).node) (sym is) same.stands,
     )

@@ -104,11 +104,7 @@ fn hears_piece(
 }
 
 /// A stream that is broken is dropped and hung up.
-fn ends_broken(
-    work: &mut Work,
-    number: u64,
-    fault: Option<FrameFault>,
-) -> Result<(), NoMemory>
+fn ends_broken(work: &mut Work, number: u64, fault: Option<FrameFault>) -> Result<(), NoMemory>
     ensures { OnOk result (work.new ≡ ends_broken number fault work.old) }
 {
     let Some(fault) = fault else {

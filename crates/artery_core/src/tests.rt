@@ -182,11 +182,7 @@ fn begins(
 }
 
 /// An answer to the node's own request comes.
-fn answers(
-    play: &mut Play,
-    for_uid: Option<u64>,
-    nonce: Option<u64>,
-) -> Result<(), NoMemory> {
+fn answers(play: &mut Play, for_uid: Option<u64>, nonce: Option<u64>) -> Result<(), NoMemory> {
     let from = incarnation(play.alloc, b"A", 1)?;
     says(
         play,
@@ -335,7 +331,13 @@ fn accepts_so_many(alloc: Global) -> Result<bool, NoMemory> {
     }
     let accepted = did(&play, b"akka://B@h:1#2 started\n");
     accepts(&mut play, 257)?;
-    Ok(accepted && did_last(&play, b"started\nakka://B@h:1#2 refused connections\nhang in 257\n"))
+    Ok(
+        accepted
+            && did_last(
+                &play,
+                b"started\nakka://B@h:1#2 refused connections\nhang in 257\n",
+            ),
+    )
 }
 
 fn spawns_so_many(alloc: Global) -> Result<bool, NoMemory> {
@@ -345,7 +347,10 @@ fn spawns_so_many(alloc: Global) -> Result<bool, NoMemory> {
         let path = spelled(alloc, path.as_slice())?;
         asks(&mut play, Request::Spawn { path })?;
     }
-    Ok(did_last(&play, b"spawned /user/4095\nakka://B@h:1#2 refused actors\n"))
+    Ok(did_last(
+        &play,
+        b"spawned /user/4095\nakka://B@h:1#2 refused actors\n",
+    ))
 }
 
 fn watches_so_many(alloc: Global) -> Result<bool, NoMemory> {
@@ -356,12 +361,10 @@ fn watches_so_many(alloc: Global) -> Result<bool, NoMemory> {
         let path = spelled(alloc, b"/user/w")?;
         asks(&mut play, Request::Watch { path, watchee })?;
     }
-    Ok(
-        did_last(
-            &play,
-            b"watched 4096 akka://B@h:1/user/w akka://A@h:1/user/4095\nakka://B@h:1#2 refused watches\n",
-        ),
-    )
+    Ok(did_last(
+        &play,
+        b"watched 4096 akka://B@h:1/user/w akka://A@h:1/user/4095\nakka://B@h:1#2 refused watches\n",
+    ))
 }
 
 fn holds_so_many(alloc: Global) -> Result<bool, NoMemory> {
@@ -377,7 +380,10 @@ fn holds_so_many(alloc: Global) -> Result<bool, NoMemory> {
         let address = address(alloc, b"A")?;
         asks(&mut play, Request::Tell { address, message })?;
     }
-    Ok(did(&play, b"akka://B@h:1#2 started\ndial 1\nakka://B@h:1#2 refused held\n"))
+    Ok(did(
+        &play,
+        b"akka://B@h:1#2 started\ndial 1\nakka://B@h:1#2 refused held\n",
+    ))
 }
 
 fn sends_one(play: &mut Play) -> Result<(), NoMemory> {
@@ -395,7 +401,10 @@ fn keeps_so_many(alloc: Global) -> Result<bool, NoMemory> {
     sends_one(&mut play)?;
     Ok(
         kept && play.node.owes()
-            && did(&play, b"akka://B@h:1#2 started\ndial 1\nakka://B@h:1#2 refused waiting\n"),
+            && did(
+                &play,
+                b"akka://B@h:1#2 started\ndial 1\nakka://B@h:1#2 refused waiting\n",
+            ),
     )
 }
 
@@ -446,7 +455,9 @@ fn waits_for_an_answer(alloc: Global) -> Result<bool, NoMemory> {
     let again = did_last(&play, b"0102\nwrite 1 70\nwrite 1 70\n");
     ticks(&mut play, 21_600_000)?;
     Ok(
-        sent && early && again && !play.node.owes()
+        sent && early
+            && again
+            && !play.node.owes()
             && did_last(
                 &play,
                 b"\nakka://B@h:1#2 closed akka://A@h:1#1 undelivered\nwrite 1 79\nhang 2\n",

@@ -22,9 +22,11 @@ const MOST_INBOUND: usize = 256;
 fn remove_inbound(inbound: &mut Vec<Inbound>, number: u64)
     ensures { inbound.new.items ≡ filter (λ i. not (is_number number i)) inbound.old.items }
 {
-    inbound.retain(|i: &Inbound| -> bool
-        ensures { result ≡ not (is_number number i.now) }
-    { !i.is_number(number) });
+    inbound.retain(
+        |i: &Inbound| -> bool
+            ensures { result ≡ not (is_number number i.now) }
+        { !i.is_number(number) },
+    );
 }
 
 /// The place of the first of them whose number is at least this one.
