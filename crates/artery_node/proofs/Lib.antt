@@ -3,5 +3,9 @@ pub mod Terminated
 pub mod Pumping
 pub mod Overflows
 pub mod Each
+pub mod Mapping
+pub mod Advertising
 pub mod Unwatched
 pub mod Sent
+pub mod Inserted
+pub mod Heard

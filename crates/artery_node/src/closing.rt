@@ -84,7 +84,7 @@ impl Work {
     }
 
     /// The own connection of a peer that carries ordinary messages is hung up and gone, where there is one.
-    fn drops_ordinary(&mut self, address: &Address) -> Result<(), NoMemory>
+    pub fn drops_ordinary(&mut self, address: &Address) -> Result<(), NoMemory>
         ensures { OnOk result (self.new ≡ drops_ordinary address.now self.old) }
     {
         let dial = dial_of(self.conn_at(Stream::Ordinary, address));
@@ -217,6 +217,22 @@ impl Work {
     {
         match current {
             None => self.refuses(reason),
+            Some(uid) => self.closes(address, cause, uid),
+        }
+    }
+
+    /// The current incarnation at an address, this one, is closed, where one is.
+    pub fn closes_current(
+        &mut self,
+        address: &Address,
+        current: Option<u64>,
+        cause: Cause,
+    ) -> Result<(), NoMemory>
+        requires { current ≡ current_of (peer_at address.now self.old.node) }
+        ensures { OnOk result (self.new ≡ closes_current address.now cause current stays self.old) }
+    {
+        match current {
+            None => Ok(()),
             Some(uid) => self.closes(address, cause, uid),
         }
     }

@@ -7,12 +7,17 @@
 
 mod asking;
 mod closing;
+mod coming;
 mod copies;
 mod deeds;
+mod due;
 mod finding;
+mod hearing;
 mod making;
+mod meeting;
 mod sending;
 mod watching;
 mod work;
 
+pub use closing::incarnation;
 pub use work::Work;

@@ -71,7 +71,7 @@ impl Work {
     }
 
     /// Whether the peer at an address is asleep.
-    fn is_asleep(&self, address: &Address) -> bool
+    pub fn is_asleep(&self, address: &Address) -> bool
         ensures { result ≡ (peer_at address.now self.now.node).asleep }
     {
         match self.peer(address) {

@@ -52,23 +52,21 @@ impl Work {
         ensures work { OnOk result (self.new ≡ pumps_one address.now self.old) }
     {
         let current = self.current_at(address);
+        let Some((n, message)) = self.pump(address)? else {
+            return Ok(false);
+        };
         let reply_to = self.me.clone()?;
-        match self.pump(address)? {
-            None => Ok(false),
-            Some((n, message)) => {
-                let control = Control::Numbered {
-                    n,
-                    message,
-                    reply_to,
-                };
-                self.on_control_to(address, current, control)?;
-                Ok(true)
-            }
-        }
+        let control = Control::Numbered {
+            n,
+            message,
+            reply_to,
+        };
+        self.on_control_to(address, current, control)?;
+        Ok(true)
     }
 
     /// How many system messages are kept for the peer at an address or wait.
-    fn kept_at(&self, address: &Address) -> u64
+    pub fn kept_at(&self, address: &Address) -> u64
         ensures { result ≡ length (peer_at address.now self.now.node).out.messages }
     {
         match self.peer(address) {

@@ -8,15 +8,15 @@ ghost use Rattle.artery_machine.specs.Parts.{kept};
 ghost use Rattle.artery_machine.specs.Node.{peer_at};
 ghost use Rattle.artery_machine.specs.Doing.{in_bytes, stays, each, tells_of};
 ghost use Rattle.artery_machine.specs.Making.{may_have, at_request};
-ghost use Rattle.artery_machine.specs.Watching.{unwatch_kind, notice, watches_at, after_last_watch, begins_watch, watches_as, watches_pair, ends_watch, unwatches_pair, watches, unwatches, spawns, tells_ended, kills, is_watched, is_unwatched, at_own, terminates, acts_as, acts};
+ghost use Rattle.artery_machine.specs.Watching.{unwatch_kind, notice, watches_at, after_last_watch, begins_watch, watches_as, watches_pair, ends_watch, unwatches_pair, watches, unwatches, spawns, tells_ended, kills, is_watched, is_unwatched, at_own, terminates, acts_as};
 ghost use Rattle.artery_notices.specs.Telling.{told};
 ghost use Rattle.artery_node.specs.Steps.{unwatch_told};
 ghost use Rattle.artery_journal.specs.declared.line.Line.TheVariants as lines;
 
 use crate::work::Work;
-use artery_base::{Address, NoMemory, SysMsg, Text, UniqueAddress};
+use artery_base::{Address, NoMemory, Text, UniqueAddress};
 use artery_journal::{Line, Reason};
-use artery_notices::{NoticeKind, Told, address_in, notice, path_at, reference, told_of};
+use artery_notices::{NoticeKind, Told, address_in, notice, path_at, reference};
 use artery_watch::{Notice, RemoteWatch, Spawn, Stop, Unwatch, Watch, is_at};
 
 impl Work {
@@ -288,7 +288,7 @@ impl Work {
 
     /// What an origin told of a watch acts: a watch begins where the actor is the node's own and the watcher the origin's; it ends where the
     /// actor is the node's own; an actor has ended where it is the origin's.
-    fn acts_as(&mut self, v: &UniqueAddress, what: Told) -> Result<(), NoMemory>
+    pub fn acts_as(&mut self, v: &UniqueAddress, what: Told) -> Result<(), NoMemory>
         ensures { OnOk result (self.new ≡ acts_as v.now self.old.node.me.address (told what) self.old) }
     {
         match what {
@@ -316,13 +316,5 @@ impl Work {
             }
             Told::Nothing => Ok(()),
         }
-    }
-
-    /// A system message that was taken from an origin acts.
-    pub fn acts(&mut self, v: &UniqueAddress, message: &SysMsg) -> Result<(), NoMemory>
-        ensures { OnOk result (self.new ≡ acts v.now message.now self.old) }
-    {
-        let what = told_of(self.alloc, message)?;
-        self.acts_as(v, what)
     }
 }

@@ -68,6 +68,13 @@ impl Work {
         &self.me
     }
 
+    /// What is written bears the node's own UID. Does nothing.
+    pub fn writes_as_itself(&self)
+        ensures { self.now.deeds.uid ≡ self.now.node.me.uid }
+    {
+        let _ = &self.me;
+    }
+
     /// The moment of the last tick in milliseconds, 0 before the first.
     pub fn moment(&self) -> u64
         ensures { result ≡ self.now.node.moment }

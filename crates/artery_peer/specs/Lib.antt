@@ -1,2 +1,4 @@
 pub mod Accepting
 pub mod Current
+pub mod Showing
+pub mod Counting

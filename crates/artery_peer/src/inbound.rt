@@ -15,12 +15,12 @@ use std::marker::Model;
 /// table that was last seen to be used on it.
 #[derive(Drop)]
 pub struct Inbound {
-    number: u64,
-    bytes: Deframer,
-    conn: InConn,
-    owed: Option<Answer>,
-    shown_refs: Option<u64>,
-    shown_manifests: Option<u64>,
+    pub(crate) number: u64,
+    pub(crate) bytes: Deframer,
+    pub(crate) conn: InConn,
+    pub(crate) owed: Option<Answer>,
+    pub(crate) shown_refs: Option<u64>,
+    pub(crate) shown_manifests: Option<u64>,
 }
 
 impl Model for Inbound {

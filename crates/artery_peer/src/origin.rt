@@ -10,11 +10,11 @@ use std::marker::Model;
 /// An origin: who it is, the tables announced to it, the moment at which they were last due, and whether an acknowledgement is owed.
 #[derive(Drop)]
 pub struct Origin {
-    who: UniqueAddress,
-    refs: InTables,
-    manifests: InTables,
-    advertised: u64,
-    owes: bool,
+    pub(crate) who: UniqueAddress,
+    pub(crate) refs: InTables,
+    pub(crate) manifests: InTables,
+    pub(crate) advertised: u64,
+    pub(crate) owes: bool,
 }
 
 impl Model for Origin {

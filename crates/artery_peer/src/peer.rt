@@ -31,19 +31,19 @@ const REDIAL_AFTER_MS: u64 = 1_000;
 /// heartbeats, and the moment of the last heartbeat written to it.
 #[derive(Drop)]
 pub struct Peer {
-    incarnations: Incarnations,
-    out: Outbound,
-    held: Vec<Tell>,
-    refs: OutTable,
-    manifests: OutTable,
-    control: Link,
-    ordinary: Link,
-    quiet: u64,
-    patience: u64,
-    used: u64,
-    asleep: bool,
-    beats: Detector,
-    last_beat: Option<u64>,
+    pub(crate) incarnations: Incarnations,
+    pub(crate) out: Outbound,
+    pub(crate) held: Vec<Tell>,
+    pub(crate) refs: OutTable,
+    pub(crate) manifests: OutTable,
+    pub(crate) control: Link,
+    pub(crate) ordinary: Link,
+    pub(crate) quiet: u64,
+    pub(crate) patience: u64,
+    pub(crate) used: u64,
+    pub(crate) asleep: bool,
+    pub(crate) beats: Detector,
+    pub(crate) last_beat: Option<u64>,
 }
 
 impl Model for Peer {

@@ -9,6 +9,7 @@ ghost use Rattle.artery_machine.specs.Parts.{kept};
 ghost use Rattle.artery_machine.specs.Node.{Node, Inbound, speaker_in};
 ghost use Rattle.artery_machine.specs.Verdict.{is_control_serializer, is_request_letter, belongs_on, belongs, control_read, content_of, is_handshake, speaker_of, uid_said, agrees_with, is_the_known, is_from, is_uid_of, meaning_or_rule, meant, said_by, tables_for, content_in};
 ghost use Rattle.artery_machine.specs.Hearing.{is_told_closed};
+ghost use Rattle.artery_verdict.specs.Good.{IsGood};
 ghost use Rattle.artery_verdict.specs.Heard.{content_told, tell_meaning, IsSaid, envelope_heard, frame_heard};
 
 use crate::content::{Content, NotSaid};
@@ -72,7 +73,8 @@ fn control_content<'f>(
     manifest: &[u8],
     payload: &[u8],
 ) -> Result<Content<'f>, NotSaid>
-    ensures { IsSaid result (control_read (message_of manifest.now payload.now)) }
+    ensures said { IsSaid result (control_read (message_of manifest.now payload.now)) }
+    ensures good { IfOk result IsGood }
 {
     match read_control(alloc, manifest, payload) {
         Ok(control) => Ok(Content::Control(control)),
@@ -105,7 +107,9 @@ fn content_of<'f>(
 ) -> Result<Content<'f>, NotSaid>
     requires ascii { HasAsciiNames (meaning message.now) }
     requires uid { message.now.uid ≡ envelope.uid }
-    ensures { IsSaid result (content_of (envelope_of envelope.entry) (meaning message.now)) }
+    requires texts { HasTexts (envelope_of envelope) }
+    ensures said { IsSaid result (content_of (envelope_of envelope.entry) (meaning message.now)) }
+    ensures good { IfOk result IsGood }
 {
     if is_control_serializer(message.serializer) {
         return control_content(alloc, message.manifest, message.payload);
@@ -273,7 +277,8 @@ fn said_by<'f>(
     envelope: Envelope<'f>,
 ) -> Result<Content<'f>, NotSaid>
     requires { HasTexts (envelope_of envelope) }
-    ensures { IsSaid result (said_by state.now stream (envelope_of envelope.entry) (meaning_or_rule (meant kept (record { refs = refs.now; manifests = manifests.now }) (envelope_of envelope.entry)))) }
+    ensures said { IsSaid result (said_by state.now stream (envelope_of envelope.entry) (meaning_or_rule (meant kept (record { refs = refs.now; manifests = manifests.now }) (envelope_of envelope.entry)))) }
+    ensures good { IfOk result IsGood }
 {
     let message = meant(envelope, refs, manifests)?;
     if !belongs(stream, &message) {
@@ -299,7 +304,8 @@ fn envelope_said<'f>(
     envelope: Envelope<'f>,
 ) -> Result<Content<'f>, NotSaid>
     requires { HasTexts (envelope_of envelope) }
-    ensures { IsSaid result (envelope_heard state.now stream (record { refs = refs.now; manifests = manifests.now }) (envelope_of envelope.entry)) }
+    ensures said { IsSaid result (envelope_heard state.now stream (record { refs = refs.now; manifests = manifests.now }) (envelope_of envelope.entry)) }
+    ensures good { IfOk result IsGood }
 {
     if !is_uid_of(state, envelope.uid) {
         return Err(NotSaid::Dropped(Rule::Uid));
@@ -316,7 +322,8 @@ fn frame_said<'f>(
     manifests: &InTables,
     frame: &'f [u8],
 ) -> Result<Content<'f>, NotSaid>
-    ensures { IsSaid result (frame_heard state.now stream (record { refs = refs.now; manifests = manifests.now }) frame.now) }
+    ensures said { IsSaid result (frame_heard state.now stream (record { refs = refs.now; manifests = manifests.now }) frame.now) }
+    ensures good { IfOk result IsGood }
 {
     match read_envelope(frame) {
         Ok(envelope) => envelope_said(alloc, stream, state, refs, manifests, envelope),
@@ -328,8 +335,8 @@ fn frame_said<'f>(
 /// origin; else the first rule that drops it: the frame is no envelope, its UID is not the origin's, a name means nothing, it does not
 /// belong on the stream, it is no control message, nobody is known to speak yet and it is no handshake, it is not from the one that it says.
 ///
-/// `said` says so by the state and the tables, and `machine` for every node and each of its connections that have these. The texts and the
-/// payload of an ordinary message are copied once; want of memory is `NoMemory`.
+/// `said` says so by the state and the tables, and `machine` for every node and each of its connections that have these. What is said is
+/// good: a control message is valid, and the names of an envelope are ASCII. The texts and the payload of an ordinary message are copied once; want of memory is `NoMemory`.
 #[tactic(auto, using(crate::proofs::Heard::said_in))]
 pub fn content_in<'f>(
     alloc: Global,
@@ -341,6 +348,7 @@ pub fn content_in<'f>(
 ) -> Result<Content<'f>, NotSaid>
     ensures said { IsSaid result (frame_heard state.now stream (record { refs = refs.now; manifests = manifests.now }) frame.now) }
     ensures machine { (n : Node kept) (i : Inbound kept) → i.state ≡ state.now → tables_for i.state n ≡ (record { refs = refs.now; manifests = manifests.now }) → IsSaid result (content_in stream n i frame.now) }
+    ensures good { IfOk result IsGood }
 {
     frame_said(alloc, stream, state, refs, manifests, frame)
 }
