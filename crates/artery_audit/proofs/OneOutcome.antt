@@ -80,10 +80,11 @@ pub record IsTurns (parts : List Part) (lines : List Line) : Type 0 where
 one_turn : (parts : List Part) (before : List Line) (x : Line) → AreParts parts → first_fitting before parts ≡ Some x → IsFront parts before → IsInTurn parts before → IsFront parts (before ++ x ∷ []) × IsInTurn parts (before ++ x ∷ []) × (left_of (before ++ x ∷ []) parts < left_of before parts)
 one_turn parts before x ok first front turns =
     let n = from_part before parts x first in
-    let own : same n.1.of (of x) ≡ true = (opened parts ok).own n.0 (length (lines_by n.1.of before)) n.1 x n.2 n.3 in
-    (front_more parts n.0 n.1 x before ok n.2 n.3 front,
-        each_more (λ b line. first_fitting b parts ≡ Some line) before x turns first,
-        one_fewer before x parts n.0 n.1 n.2 n.3 own)
+    let own : same n.1.of (of x) ≡ true = (opened parts ok).own n.0 (length (lines_by n.1.of before)) n.1 x n.2 n.3 in (
+      front_more parts n.0 n.1 x before ok n.2 n.3 front,
+      each_more (λ b line. first_fitting b parts ≡ Some line) before x turns first,
+      one_fewer before x parts n.0 n.1 n.2 n.3 own,
+    )
 
 turns : (n : ℕ) (parts : List Part) (before : List Line) → AreParts parts → left_of before parts ≤ n → IsFront parts before → IsInTurn parts before → IsTurns parts (going_on n parts before)
 turns zero parts before ok few front in_turn = record { front = front; in_turn = in_turn; ended = by (first_fitting before parts) refl }
@@ -128,7 +129,7 @@ same_turns parts before (x ∷ xs) (y ∷ ys) h k e f =
     let shift : (zs : List Line) (z : Line) → before ++ z ∷ zs ≡ (before ++ z ∷ []) ++ zs = λ zs z. sym (one_more before zs z) in
     let other : before ++ y ∷ ys ≡ (before ++ x ∷ []) ++ ys = shift ys y ∙ ap (λ z. (before ++ z ∷ []) ++ ys) (sym first) in
     let rest : xs ≡ ys = same_turns parts (before ++ x ∷ []) xs ys (subst (IsInTurn parts) (shift xs x) h) (subst (IsInTurn parts) other k)
-        (ap (λ b. first_fitting b parts) (sym (shift xs x)) ∙ e) (ap (λ b. first_fitting b parts) (sym other) ∙ f) in
+    (ap (λ b. first_fitting b parts) (sym (shift xs x)) ∙ e) (ap (λ b. first_fitting b parts) (sym other) ∙ f) in
     (λ i. first i ∷ rest i)
 
 -- ---- a merge

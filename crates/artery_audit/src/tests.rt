@@ -124,6 +124,7 @@ fn order(alloc: Global, told: &[(u64, &[Say])]) -> Result<Vec<u64>, NoMemory> {
 
 /// A part that sends, and the part of who takes it.
 const SENDS: [Say; 3] = [Say::Started(1), Say::Learnt(1, 2), Say::Sent(1, 2, 1, 7)];
+
 const TAKES: [Say; 3] = [Say::Started(2), Say::Learnt(2, 1), Say::Took(2, 1, 1, 7)];
 
 #[test]
@@ -143,8 +144,12 @@ fn parts_fit_together(rt: HostRuntime) -> Result<(), Fail> {
     for told in cases {
         assert_eq!(rt; found(alloc, told)?, Found::Lawful);
     }
-    assert!(rt; order(alloc, &[(1, &SENDS), (2, &TAKES)])?.as_slice() == [1, 1, 1, 2, 2, 2].as_slice());
-    assert!(rt; order(alloc, &[(2, &TAKES), (1, &SENDS)])?.as_slice() == [2, 2, 1, 1, 1, 2].as_slice());
+    assert!(rt;
+        order(alloc, &[(1, &SENDS), (2, &TAKES)])?.as_slice() == [1, 1, 1, 2, 2, 2].as_slice()
+    );
+    assert!(rt;
+        order(alloc, &[(2, &TAKES), (1, &SENDS)])?.as_slice() == [2, 2, 1, 1, 1, 2].as_slice()
+    );
     Ok(())
 }
 
