@@ -12,6 +12,3 @@ mod node;
 mod requests;
 
 pub use node::Node;
-
-#[cfg(test)]
-mod tests;
