@@ -30,8 +30,6 @@ pub use refusal::Refusal;
 pub use top::run;
 
 #[cfg(test)]
-mod audit_tests;
-#[cfg(test)]
 mod journal_tests;
 #[cfg(test)]
 mod tests;
