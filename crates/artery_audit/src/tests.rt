@@ -90,7 +90,7 @@ enum Found {
     Broken { of: u64, line: u64, law: Law },
 }
 
-fn found(alloc: Global, told: &[(u64, &[Say])]) -> Result<Found, NoMemory> {
+fn what_it_found(alloc: Global, told: &[(u64, &[Say])]) -> Result<Found, NoMemory> {
     let parts = parts_of(alloc, told)?;
     if !are_parts(parts.as_slice()) {
         return Ok(Found::NoParts);
@@ -142,7 +142,7 @@ fn parts_fit_together(rt: HostRuntime) -> Result<(), Fail> {
         ],
     ];
     for told in cases {
-        assert_eq!(rt; found(alloc, told)?, Found::Lawful);
+        assert_eq!(rt; what_it_found(alloc, told)?, Found::Lawful);
     }
     assert!(rt;
         order(alloc, &[(1, &SENDS), (2, &TAKES)])?.as_slice() == [1, 1, 1, 2, 2, 2].as_slice()
@@ -188,7 +188,7 @@ fn the_first_part_that_is_stuck(rt: HostRuntime) -> Result<(), Fail> {
         ),
     ];
     for (told, want) in cases {
-        assert_eq!(rt; found(alloc, told)?, want);
+        assert_eq!(rt; what_it_found(alloc, told)?, want);
     }
     Ok(())
 }
@@ -202,7 +202,7 @@ fn what_is_no_part(rt: HostRuntime) -> Result<(), Fail> {
         &[(1, &SENDS), (2, &[Say::Started(2), Say::Started(1)])],
     ];
     for told in cases {
-        assert_eq!(rt; found(alloc, told)?, Found::NoParts);
+        assert_eq!(rt; what_it_found(alloc, told)?, Found::NoParts);
     }
     Ok(())
 }
