@@ -1,5 +1,5 @@
 -- First steps of two nodes, message by message: what is done is said in full, so that the rules are seen at work.
-use Rattle.std.specs.Prelude.{ℕ, pos, List, [], ◌∷◌, Option, None, Some, codes}
+use Rattle.std.specs.Prelude.{ℕ, ◌+◌, pos, List, [], ◌∷◌, Option, None, Some, codes}
 use Rattle.artery_base.specs.declared.address.Address.{Address}
 use Rattle.artery_base.specs.declared.address.UniqueAddress.{UniqueAddress}
 use Rattle.artery_base.specs.declared.message.SysMsg.{SysMsg}
@@ -21,7 +21,12 @@ use Rattle.artery_machine.specs.Ticking.{ticks}
 use Rattle.artery_machine.specs.Reacting.{accepts, asked_for}
 use Rattle.artery_script.specs.declared.event.Event.{Event}
 use Rattle.artery_script.specs.declared.event.Event.TheVariants as events
-use Rattle.artery_machine.specs.World.{Outcome, Told, Fault, runs, nothing}
+use Rattle.artery_machine.specs.declared.world.Outcome.{Outcome}
+use Rattle.artery_machine.specs.declared.world.Outcome.TheVariants as outcomes
+use Rattle.artery_machine.specs.declared.world.WorldFault.{WorldFault}
+use Rattle.artery_machine.specs.Ways.{whole_ways}
+use Rattle.artery_machine.specs.Playing.{Stop, run}
+use Rattle.artery_script.specs.declared.script.ScriptLine.{ScriptLine}
 
 -- akka://A@h1:25520
 abbrev pub first_address : Address
@@ -174,15 +179,24 @@ two_start = events.Start first ∷ events.Start second ∷ []
 
 -- Each tells so at moment 0.
 abbrev pub started_outcomes : List Outcome
-started_outcomes = Told 0 (lines.Started first) ∷ Told 0 (lines.Started second) ∷ []
+started_outcomes = outcomes.Line 0 (lines.Started first) ∷ outcomes.Line 0 (lines.Started second) ∷ []
 
 -- Then a pair is asked for, at a later moment, and nobody answers the dial.
 abbrev pub one_waits : List Event
 one_waits = events.Tick 1 5 ∷ events.At 1 (requests.Pair second_address) ∷ events.Fail 1 1 ∷ []
 
--- What came of a script, and why the network ended.
-abbrev pub outcomes_of : List Event → List Outcome
-outcomes_of script = (runs {P = whole} script nothing).outcomes
+-- Events with the numbers of their lines, from a first number on.
+abbrev pub numbered : ℕ → List Event → List ScriptLine
+numbered line [] = []
+numbered line (event ∷ events) = record { line = line; event = event } ∷ numbered (line + 1) events
 
-abbrev pub end_of : List Event → Option Fault
-end_of script = (runs {P = whole} script nothing).ended
+-- What came of a script, and where its run stopped.
+abbrev pub outcomes_of : List Event → List Outcome
+outcomes_of events = (run {P = whole} {W = whole_ways} (numbered 1 events)).world.outcomes
+
+abbrev pub stop_of : List Event → Option Stop
+stop_of events = (run {P = whole} {W = whole_ways} (numbered 1 events)).stop
+
+-- A run stopped at this line, for this reason.
+abbrev pub stopped_at : ℕ → WorldFault → Option Stop
+stopped_at line fault = Some (record { line = line; fault = fault })

@@ -12,5 +12,8 @@ pub mod Handshaking
 pub mod Hearing
 pub mod Ticking
 pub mod Reacting
+pub mod Ways
+pub mod Connections
 pub mod World
+pub mod Playing
 pub mod Examples

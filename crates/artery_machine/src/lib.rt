@@ -23,4 +23,4 @@ pub use laws::{
     a_peer_sleeps, patience_ends,
 };
 pub use link::{Answer, Link};
-pub use world::{Why, WorldLimit};
+pub use world::{Outcome, Why, WorldFault, WorldLimit};

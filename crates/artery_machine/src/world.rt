@@ -1,4 +1,18 @@
-//! Why an event of a network does not happen, or not to its end.
+//! What comes of an event of a network, and why one does not happen, or not to its end.
+ghost use Rattle.std.specs.Prelude.{◌≡◌};
+ghost use Rattle.artery_machine.specs.declared.world.WorldFault.TheVariants as faults;
+
+use artery_base::{Bytes, NoMemory};
+use artery_journal::Line;
+
+/// One thing that came of an event.
+#[derive(Debug, Drop)]
+pub enum Outcome {
+    /// An incarnation told a line of the journal, at its moment in milliseconds.
+    Line { moment: u64, line: Line },
+    /// The incarnation with this UID wrote the bytes, a preamble or one frame, on its connection with this dial number.
+    Wrote { uid: u64, dial: u64, bytes: Bytes },
+}
 
 /// Which condition of an event fails. Where several fail, the first of the event's own conditions is told.
 #[derive(Clone, Copy, Debug, PartialEq, Eq)]
@@ -38,4 +52,23 @@ pub enum WorldLimit {
     Undelivered,
     /// 100,000 connections made, those that have ended included.
     Connections,
+}
+
+/// Why an event did not happen, or not to its end.
+#[derive(Clone, Copy, Debug, PartialEq, Eq)]
+pub enum WorldFault {
+    /// The event is not allowed here. Nothing changed.
+    NotAllowed { why: Why },
+    /// The event would pass a limit. What came of it before stands, and the network has ended.
+    Limit { which: WorldLimit },
+    /// Memory ran out. The network has ended.
+    NoMemory,
+}
+
+impl From<NoMemory> for WorldFault {
+    ghost from_gives = { λ _ e. e ≡ faults.NoMemory };
+
+    fn from(_want: NoMemory) -> WorldFault {
+        WorldFault::NoMemory
+    }
 }
