@@ -34,6 +34,7 @@ own_effects law input old new none own is = ap (λ (d : Doing kept in_bytes). d.
 pub does_as_whole : (law : (input : Input) (n : Node kept) (w : Node whole) → NodeStands n w → DoSame (step input n) (step input w))
     (input : Input) (old new : Node kept) (before after : List Effect) → new ≡ (step input old).node → after ≡ before ++ effects_of old.me.uid (step input old).deeds
     → DoesAsWhole input old new before after
+unfolding DoesAsWhole
 does_as_whole law input old new before after is told w h =
     let same : DoSame (step input old) (step input w) = law input old w h in (
       told

@@ -25,6 +25,6 @@ IsFit n (inputs.DialFailed dial) = Unit {0}
 IsFit n (inputs.Ended conn) = Unit {0}
 
 -- For each node with whole histories that a node stands for: the effects that come are those of its step at the input, with their bytes, and what the node became stands for what that step leads to.
-abbrev pub DoesAsWhole : Input → Node kept → Node kept → List Effect → List Effect → Type 0
+unfoldable pub DoesAsWhole : Input → Node kept → Node kept → List Effect → List Effect → Type 0
 DoesAsWhole input old new before after =
     (w : Node whole) → NodeStands old w → (after ≡ before ++ effects_of w.me.uid (step input w).deeds) × NodeStands new (step input w).node

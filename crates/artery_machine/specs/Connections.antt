@@ -21,7 +21,7 @@ module _ {W : Ways} where
     far = far;
     number = number;
     near_open = true;
-    way = W.nothing_written dialer;
+    way = W.nothing_written;
   }
 
   -- Whether a connection has this dialer and this dial number.
@@ -71,9 +71,9 @@ module _ {W : Ways} where
       near : Connection W → Connection W
       near c = if c.dialer == uid then near_ended c else c
 
-  -- Something more was written.
-  abbrev pub with_writing : Writing → Connection W → Connection W
-  with_writing writing c = record c { way = W.wrote writing c.way }
+  -- Something more was written, with these bytes.
+  abbrev pub with_writing : Writing → List ℕ → Connection W → Connection W
+  with_writing writing bytes c = record c { way = W.wrote writing bytes c.way }
 
   -- So many more bytes were delivered.
   abbrev pub with_delivered : ℕ → Connection W → Connection W

@@ -1,15 +1,14 @@
 -- What is on a connection of a network, on its way from who dialed to the far side: all that was ever written, or what is still to come and two counts.
 use Rattle.std.specs.Prelude.{ℕ, ◌+◌, ◌-◌, ◌^◌, Bool, true, false, min, if◌then◌else◌, List, [], ◌∷◌, ◌++◌, length, drop}
 use Rattle.std.specs.List.{flat_map}
-use Rattle.artery_machine.specs.Deeds.{Writing, bytes_of}
+use Rattle.artery_machine.specs.Deeds.{Writing}
 
 -- What the rules of a network ask of what is on a connection. They know nothing else of it.
 pub record Ways : Type 1 where
   pub Way : Type 0
-  -- nothing was written by who dialed, with this UID
-  pub nothing_written : ℕ → Way
-  -- something more was written
-  pub wrote : Writing → Way → Way
+  pub nothing_written : Way
+  -- something more was written, with these bytes
+  pub wrote : Writing → List ℕ → Way → Way
   -- so many more bytes were delivered, at most all that are undelivered
   pub delivered_more : ℕ → Way → Way
   -- the far side has ended: what was undelivered is lost, and so is what is written from then on
@@ -28,16 +27,20 @@ as_told n = min n (2 ^ 64 - 1)
 
 -- ---- whole
 
--- All that the node with a UID wrote, how many of its bytes were delivered, and whether the far side is open. It is never shortened.
+-- What was written, and its bytes.
+pub record Wrote : Type 0 where
+  pub writing : Writing
+  pub bytes : List ℕ
+
+-- All that was written, each with its bytes, how many of all these bytes were delivered, and whether the far side is open. It is never shortened.
 pub record Written : Type 0 where
-  pub uid : ℕ
-  pub writings : List Writing
+  pub all : List Wrote
   pub delivered : ℕ
   pub is_open : Bool
 
 -- All bytes that were written.
 abbrev pub bytes_on : Written → List ℕ
-bytes_on w = flat_map (bytes_of w.uid) w.writings
+bytes_on w = flat_map (λ (x : Wrote). x.bytes) w.all
 
 -- The bytes that are undelivered: those behind the delivered ones, and none once the far side has ended.
 abbrev pub left_on : Written → List ℕ
@@ -47,8 +50,8 @@ left_on w = if w.is_open then drop w.delivered (bytes_on w) else []
 abbrev pub whole_ways : Ways
 whole_ways = record {
   Way = Written;
-  nothing_written = λ uid. record { uid = uid; writings = []; delivered = 0; is_open = true };
-  wrote = λ writing w. record w { writings = w.writings ++ writing ∷ [] };
+  nothing_written = record { all = []; delivered = 0; is_open = true };
+  wrote = λ writing bytes w. record w { all = w.all ++ record { writing = writing; bytes = bytes } ∷ [] };
   delivered_more = λ count w. record w { delivered = w.delivered + min count (length (left_on w)) };
   ended = λ w. record w { is_open = false };
   is_open = λ w. w.is_open;
@@ -61,7 +64,6 @@ whole_ways = record {
 
 -- The bytes that are undelivered, how many were written and delivered, and whether the far side is open.
 pub record Waiting : Type 0 where
-  pub uid : ℕ
   pub bytes : List ℕ
   pub written : ℕ
   pub delivered : ℕ
@@ -83,8 +85,8 @@ kept_ended k = record k { bytes = []; is_open = false }
 abbrev pub kept_ways : Ways
 kept_ways = record {
   Way = Waiting;
-  nothing_written = λ uid. record { uid = uid; bytes = []; written = 0; delivered = 0; is_open = true };
-  wrote = λ writing k. kept_wrote (bytes_of k.uid writing) k;
+  nothing_written = record { bytes = []; written = 0; delivered = 0; is_open = true };
+  wrote = λ writing bytes k. kept_wrote bytes k;
   delivered_more = kept_delivered;
   ended = kept_ended;
   is_open = λ k. k.is_open;

@@ -157,6 +157,11 @@ module _ {P : Parts} {W : Ways} where
   abbrev pub stays : Change P W
   stays w = w
 
+  -- A change by what was found, where something was.
+  abbrev pub by_found : {X : Type 0} → (X → Change P W) → Option X → Change P W
+  by_found change None = stays
+  by_found change (Some x) = change x
+
   -- A change for each of a list, in its order.
   abbrev pub each : {X : Type 0} → List X → (X → Change P W) → Change P W
   each [] change = stays
@@ -204,18 +209,9 @@ module _ {P : Parts} {W : Ways} where
   abbrev pub connection_becomes : (Connection W → Connection W) → ℕ → Change P W
   connection_becomes change place w = record w { connections = change_at place change w.connections }
 
-  -- A change at a place, if it is known.
-  abbrev pub at_known : (ℕ → Change P W) → Option ℕ → Change P W
-  at_known change None = stays
-  at_known change (Some place) = change place
-
   -- A change by the connection at a place as it is now, where there is one.
   abbrev pub by_connection : (ℕ → Connection W → Change P W) → ℕ → Change P W
-  by_connection change place w = by_found (connection_at place w) w
-    where
-      by_found : Option (Connection W) → Change P W
-      by_found None v = v
-      by_found (Some c) v = change place c v
+  by_connection change place w = by_found (change place) (connection_at place w) w
 
   -- Something came of an event.
   abbrev pub comes_out : Outcome → Change P W
@@ -225,12 +221,12 @@ module _ {P : Parts} {W : Ways} where
   abbrev pub is_too_much : ℕ → Connection W → World P W → Bool
   is_too_much count c w = far_open c && nat_lt most_undelivered (undelivered w + count)
 
-  -- The node that dialed a connection writes on it, and that is told. After its near side has ended this is left out. What would bring the undelivered bytes above the limit is not written, and the network ends.
-  abbrev pub writes : Writing → ℕ → Connection W → Change P W
-  writes writing place c w =
+  -- The node with this UID writes something with these bytes on its connection with this dial number, and that is told. After the near side has ended this is left out. What would bring the undelivered bytes above the limit is not written, and the network ends.
+  abbrev pub writes : ℕ → ℕ → Writing → List ℕ → ℕ → Connection W → Change P W
+  writes uid dial writing bytes place c w =
       (if not c.near_open then stays
-      else if is_too_much (length (bytes_of c.dialer writing)) c w then ends limits.Undelivered
-      else connection_becomes (with_writing writing) place ⟫ comes_out (outcomes.Wrote c.dialer c.dial (bytes_of c.dialer writing))) w
+      else if is_too_much (length bytes) c w then ends limits.Undelivered
+      else connection_becomes (with_writing writing bytes) place ⟫ comes_out (outcomes.Wrote uid dial bytes)) w
 
   -- A dial is pending behind the others.
   abbrev pub dials : ℕ → ℕ → Address → Change P W
@@ -239,9 +235,10 @@ module _ {P : Parts} {W : Ways} where
   -- A deed of the node with this UID, at its moment. A hang-up of an own connection ends its near side, one of an inbound connection its far side, and nobody is told; a dial that is pending stays so. What is written to a connection that was not made is left out.
   abbrev pub does : ℕ → ℕ → Deed → Change P W
   does uid moment (Dials dial address) w = dials uid dial address w
-  does uid moment (Writes dial writing) w = at_known (by_connection (writes writing)) (place_dialed uid dial w.connections) w
-  does uid moment (Hangs (Outward dial)) w = at_known (connection_becomes near_ended) (place_dialed uid dial w.connections) w
-  does uid moment (Hangs (Inward number)) w = at_known (connection_becomes far_ended) (place_inward uid number w.connections) w
+  does uid moment (Writes dial writing) w =
+      by_found (by_connection (writes uid dial writing (bytes_of uid writing))) (place_dialed uid dial w.connections) w
+  does uid moment (Hangs (Outward dial)) w = by_found (connection_becomes near_ended) (place_dialed uid dial w.connections) w
+  does uid moment (Hangs (Inward number)) w = by_found (connection_becomes far_ended) (place_inward uid number w.connections) w
   does uid moment (Tells line) w = comes_out (outcomes.Line moment line) w
 
   -- The node of the live incarnation with this UID becomes another.
@@ -252,14 +249,9 @@ module _ {P : Parts} {W : Ways} where
   abbrev pub follows : ℕ → Doing P listed → Change P W
   follows uid done = node_becomes uid done.node ⟫ each done.deeds (does uid done.node.moment)
 
-  -- Something comes to the incarnation with this UID, where it lives.
-  abbrev pub comes_to : ℕ → Input → Option (Live P) → Change P W
-  comes_to uid input None = stays
-  comes_to uid input (Some l) = follows uid (step input l.node)
-
   -- Something comes to the incarnation with this UID as it is now, where it lives.
   abbrev pub gives : ℕ → Input → Change P W
-  gives uid input w = comes_to uid input (live_of uid w) w
+  gives uid input w = by_found (λ l. follows uid (step input l.node)) (live_of uid w) w
 
   -- ---- events
 
@@ -272,15 +264,12 @@ module _ {P : Parts} {W : Ways} where
   with_started unique node w =
       record w { started = w.started ++ unique.uid ∷ []; live = w.live ++ record { node = node; accepted = 0 } ∷ [] }
 
-  -- An incarnation starts. Where 64 others live it does not, and the network ends.
-  abbrev pub starts_one : UniqueAddress → Change P W
-  starts_one unique w =
+  -- An incarnation starts, and does what a node does at its start. Where 64 others live it does not start, and the network ends.
+  abbrev pub starts_with : UniqueAddress → Doing P listed → Change P W
+  starts_with unique begun w =
       (if nat_lt (length w.live) most_nodes
       then with_started unique begun.node ⟫ each begun.deeds (does unique.uid begun.node.moment)
       else ends limits.Nodes) w
-    where
-      begun : Doing P listed
-      begun = starts unique
 
   -- The incarnation with this UID lives no more; its pending dials are gone; its own connections end at their near sides and those made to it at their far sides; and no node is told.
   abbrev pub gone : ℕ → Change P W
@@ -290,10 +279,9 @@ module _ {P : Parts} {W : Ways} where
     connections = map (ended_with uid) w.connections;
   }
 
-  -- An incarnation stops: a line tells so, with its own moment, and it is gone.
-  abbrev pub stops_one : Option (Live P) → Change P W
-  stops_one None = stays
-  stops_one (Some l) = comes_out (outcomes.Line l.node.moment (lines.Stopped l.node.me)) ⟫ gone l.node.me.uid
+  -- A live incarnation stops: a line tells so, with its own moment, and it is gone.
+  abbrev pub stops_one : Live P → Change P W
+  stops_one l = comes_out (outcomes.Line l.node.moment (lines.Stopped l.node.me)) ⟫ gone l.node.me.uid
 
   -- A connection is made: the far incarnation counts one more.
   abbrev pub joins : ℕ → ℕ → ℕ → ℕ → Change P W
@@ -302,41 +290,37 @@ module _ {P : Parts} {W : Ways} where
     connections = w.connections ++ connected uid dial far number ∷ [];
   }
 
-  -- A pending dial is answered by a live incarnation, which gets the connection with its next number; then the dialer is told. Where 100,000 connections were made it is not, and the network ends.
+  -- A connection is made and told to both: the far incarnation gets it with its next number, and then the dialer is told.
+  abbrev pub connects : ℕ → ℕ → ℕ → ℕ → Change P W
+  connects uid dial far number =
+      joins uid dial far number ⟫ gives far (inputs.Accepted number) ⟫ going_on (gives uid (inputs.Dialed dial))
+
+  -- A pending dial is answered by a live incarnation. Where 100,000 connections were made it is not, and the network ends.
   abbrev pub answers : Pending → Live P → Change P W
   answers p l w =
-      (if nat_lt (length w.connections) most_connections
-      then joins p.dialer p.dial far number ⟫ gives far (inputs.Accepted number) ⟫ going_on (gives p.dialer (inputs.Dialed p.dial))
+      (if nat_lt (length w.connections) most_connections then connects p.dialer p.dial l.node.me.uid (l.accepted + 1)
       else ends limits.Connections) w
-    where
-      far : ℕ
-      far = l.node.me.uid
 
-      number : ℕ
-      number = l.accepted + 1
+  -- A dial fails where nobody was found, and is answered by a live incarnation else.
+  abbrev pub settled : Pending → Option (Live P) → Change P W
+  settled p None = gives p.dialer (inputs.DialFailed p.dial)
+  settled p (Some l) = answers p l
 
   -- A dial that is no longer pending is answered where a live incarnation has its address, and fails else.
   abbrev pub settles : Pending → Change P W
-  settles p w = settled (live_at p.address w) w
-    where
-      settled : Option (Live P) → Change P W
-      settled None = gives p.dialer (inputs.DialFailed p.dial)
-      settled (Some l) = answers p l
+  settles p w = settled p (live_at p.address w) w
 
   -- The pending dial at a place is no longer pending.
   abbrev pub no_longer : ℕ → Change P W
   no_longer place w = record w { pending = remove w.pending place }
 
+  -- A change by the pending dial at a place, which is no longer pending.
+  abbrev pub by_pending_at : (Pending → Change P W) → ℕ → Change P W
+  by_pending_at change place w = by_found (λ p. no_longer place ⟫ change p) (slice_get w.pending place) w
+
   -- A change by the first pending dial with this dialer and number, which is no longer pending.
   abbrev pub by_pending : ℕ → ℕ → (Pending → Change P W) → Change P W
-  by_pending uid dial change w = at_known by_place (position (is_pending uid dial) w.pending) w
-    where
-      by_found : ℕ → Option Pending → Change P W
-      by_found place None = stays
-      by_found place (Some p) = no_longer place ⟫ change p
-
-      by_place : ℕ → Change P W
-      by_place place v = by_found place (slice_get v.pending place) v
+  by_pending uid dial change w = by_found (by_pending_at change) (position (is_pending uid dial) w.pending) w
 
   -- A pending dial fails.
   abbrev pub fails : Pending → Change P W
@@ -368,13 +352,14 @@ module _ {P : Parts} {W : Ways} where
   abbrev pub carries_all : ℕ → Connection W → Change P W
   carries_all place c = carries (load c) place c
 
+  -- The first of these pending dials is settled, and the rest stay pending.
+  abbrev pub settles_first : List Pending → Change P W
+  settles_first [] = stays
+  settles_first (p ∷ rest) = (λ w. record w { pending = rest }) ⟫ settles p
+
   -- The first of the dials that are pending is settled, where there is one.
   abbrev pub settles_next : Change P W
-  settles_next w = settled w.pending w
-    where
-      settled : List Pending → Change P W
-      settled [] = stays
-      settled (p ∷ rest) = (λ v. record v { pending = rest }) ⟫ settles p
+  settles_next w = settles_first w.pending w
 
   -- A round: the dials that are pending at its beginning are settled, and then each connection made by then carries all its undelivered bytes, in the orders made.
   abbrev pub passes_once : Change P W
@@ -402,15 +387,15 @@ module _ {P : Parts} {W : Ways} where
 
   -- An allowed event happens.
   abbrev pub happens : Event → Change P W
-  happens (events.Start unique) w = starts_one unique w
-  happens (events.Stop uid) w = stops_one (live_of uid w) w
+  happens (events.Start unique) w = starts_with unique (starts unique) w
+  happens (events.Stop uid) w = by_found stops_one (live_of uid w) w
   happens (events.At uid request) w = gives uid (inputs.Request request) w
   happens (events.Tick uid moment) w = gives uid (inputs.Tick moment) w
   happens (events.Answer uid dial) w = by_pending uid dial settles w
   happens (events.Fail uid dial) w = by_pending uid dial fails w
-  happens (events.Carry uid dial count) w = at_known (by_connection (carries count)) (place_dialed uid dial w.connections) w
-  happens (events.Cut uid dial) w = at_known (by_connection cuts) (place_dialed uid dial w.connections) w
-  happens (events.End uid dial) w = at_known (by_connection ends_far) (place_dialed uid dial w.connections) w
+  happens (events.Carry uid dial count) w = by_found (by_connection (carries count)) (place_dialed uid dial w.connections) w
+  happens (events.Cut uid dial) w = by_found (by_connection cuts) (place_dialed uid dial w.connections) w
+  happens (events.End uid dial) w = by_found (by_connection ends_far) (place_dialed uid dial w.connections) w
   happens (events.CutAll uid) w = for_each (λ c. (c.dialer == uid) && c.near_open) cuts w
   happens (events.EndAll uid) w = for_each (λ c. (c.dialer == uid) && far_open c) ends_far w
   happens (events.Pass rounds) w = times rounds passes_once w
