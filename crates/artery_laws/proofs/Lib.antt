@@ -12,3 +12,4 @@ pub mod Leaving
 pub mod Takes
 pub mod Keeping
 pub mod Cuts
+pub mod OverWorld

@@ -4,3 +4,4 @@ pub mod Bytes
 pub mod Outcome
 pub mod Taking
 pub mod Cutting
+pub mod OverWays
