@@ -13,3 +13,5 @@ pub mod Takes
 pub mod Keeping
 pub mod Cuts
 pub mod OverWorld
+pub mod SureWays
+pub mod Networks

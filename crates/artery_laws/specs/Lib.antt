@@ -5,3 +5,4 @@ pub mod Outcome
 pub mod Taking
 pub mod Cutting
 pub mod OverWays
+pub mod Network

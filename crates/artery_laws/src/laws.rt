@@ -1,23 +1,30 @@
-//! Laws of one node, at every input. Their functions do nothing.
+//! Laws of one node, at every input, and of a network, at every script. Their functions do nothing.
 ghost use Rattle.std.specs.Prelude.{◌≡◌, ℕ, List, ◌++◌, Option, None, Some};
 ghost use Rattle.artery_base.specs.declared.address.UniqueAddress.{UniqueAddress};
 ghost use Rattle.artery_base.specs.declared.message.SysMsg.{SysMsg};
 ghost use Rattle.artery_frame.specs.declared.stream.Stream.{Stream};
 ghost use Rattle.artery_frame.specs.Stream.{reading_of};
 ghost use Rattle.artery_journal.specs.declared.rule.Rule.{Rule};
+ghost use Rattle.artery_script.specs.declared.event.Event.{Event};
+ghost use Rattle.artery_script.specs.declared.script.ScriptLine.{ScriptLine};
 ghost use Rattle.artery_machine.specs.declared.effect.Effect.{Effect};
 ghost use Rattle.artery_machine.specs.declared.input.Input.{Input};
+ghost use Rattle.artery_machine.specs.declared.world.Outcome.{Outcome};
 ghost use Rattle.artery_machine.specs.Parts.{kept, whole};
 ghost use Rattle.artery_machine.specs.Node.{Node, Inbound, inbound_at};
 ghost use Rattle.artery_machine.specs.Doing.{◌▸◌};
 ghost use Rattle.artery_machine.specs.Verdict.{Verdict, rule_of, verdict};
 ghost use Rattle.artery_machine.specs.Hearing.{hears_on};
 ghost use Rattle.artery_machine.specs.Reacting.{comes, starts, reacts, step};
+ghost use Rattle.artery_machine.specs.Ways.{kept_ways, whole_ways};
+ghost use Rattle.artery_machine.specs.World.{World, refusal, applies};
+ghost use Rattle.artery_machine.specs.Playing.{plays, run};
 ghost use Rattle.artery_laws.specs.Standing.{NodeStands, DoSame};
 ghost use Rattle.artery_laws.specs.Bytes.{after_effects, with_bytes_behind};
 ghost use Rattle.artery_laws.specs.Outcome.{IsOutcome, TellsDropped};
 ghost use Rattle.artery_laws.specs.Cutting.{IsJoined};
 ghost use Rattle.artery_laws.specs.Taking.{at_work, IsExpected, IsTaken};
+ghost use Rattle.artery_laws.specs.Network.{IsSameRun, with_outcomes_before, run_with_outcomes_before};
 
 /// What a node keeps stands for whole histories: from its start on it does at each input what a node with whole histories does, and then
 /// stands for what that becomes.
@@ -68,3 +75,26 @@ pub fn cutting_does_not_matter()
     artery_frame::readings_are_within();
     artery_frame::pieces_join();
 }
+
+/// A network of what a program keeps is the network of whole histories: at every script the same comes of it, in the same order; it stops at
+/// the same line for the same cause, or nowhere; and on each connection as many bytes were written and delivered.
+pub fn a_network_is_whole()
+    ensures { (script : List ScriptLine) → IsSameRun (run {P = kept} {W = kept_ways} script) (run {P = whole} {W = whole_ways} script) }
+{
+    artery_delivery::keeping_stands();
+    artery_delivery::expecting_stands();
+    artery_tables::keeping_stands();
+    artery_tables::adopting_stands();
+    artery_detector::keeping_stands();
+    artery_frame::keeping_stands();
+    artery_frame::holding_stands();
+    artery_frame::one_reading();
+}
+
+/// What came of a network before does not matter for what becomes of it: an event is allowed, and makes of it, what it would else, behind the
+/// outcomes that were there; and so does a script.
+pub fn a_network_goes_on()
+    ensures event { (before : List Outcome) (event : Event) (w : World kept kept_ways) → applies event (with_outcomes_before before w) ≡ with_outcomes_before before (applies event w) }
+    ensures refusal { (before : List Outcome) (event : Event) (w : World kept kept_ways) → refusal event (with_outcomes_before before w) ≡ refusal event w }
+    ensures script { (before : List Outcome) (script : List ScriptLine) (w : World kept kept_ways) → plays script (with_outcomes_before before w) ≡ run_with_outcomes_before before (plays script w) }
+{}
