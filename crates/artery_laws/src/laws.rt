@@ -76,8 +76,9 @@ pub fn cutting_does_not_matter()
     artery_frame::pieces_join();
 }
 
-/// A network of what a program keeps is the network of whole histories: at every script the same comes of it, in the same order; it stops at
-/// the same line for the same cause, or nowhere; and on each connection as many bytes were written and delivered.
+/// A network of what a program keeps shows what the network of whole histories shows: at every script the same comes of it, in the same order;
+/// it stops at the same line for the same cause, or at none; and its connections have the same counts of bytes written and delivered, where a
+/// count above 18,446,744,073,709,551,615 is told as that number.
 pub fn a_network_is_whole()
     ensures { (script : List ScriptLine) → IsSameRun (run {P = kept} {W = kept_ways} script) (run {P = whole} {W = whole_ways} script) }
 {
@@ -91,8 +92,8 @@ pub fn a_network_is_whole()
     artery_frame::one_reading();
 }
 
-/// What came of a network before does not matter for what becomes of it: an event is allowed, and makes of it, what it would else, behind the
-/// outcomes that were there; and so does a script.
+/// What came of a network before does not matter for what becomes of it. With other outcomes before its own, an event is refused for the same
+/// condition or none, and makes of it the same, behind those outcomes; and a script leads to the same and stops where it would.
 pub fn a_network_goes_on()
     ensures event { (before : List Outcome) (event : Event) (w : World kept kept_ways) → applies event (with_outcomes_before before w) ≡ with_outcomes_before before (applies event w) }
     ensures refusal { (before : List Outcome) (event : Event) (w : World kept kept_ways) → refusal event (with_outcomes_before before w) ≡ refusal event w }
