@@ -122,6 +122,7 @@ impl Connections {
 
     /// Writes bytes on the connection at a place, if there is one: they count as written, and are on their way where its far side is open.
     /// Without memory nothing changes; so too where more than 18,446,744,073,709,551,615 bytes would be on their way on all connections.
+    #[tactic(auto, using(crate::proofs::Changed::set_is_change))]
     pub fn write(&mut self, place: usize, bytes: &[u8]) -> Result<(), NoMemory>
         ensures ok { OnOk result (self.new ≡ change_at place (with_bytes bytes.now) self.old) }
         ensures err { OnErr result (self.new ≡ self.old) }
@@ -140,6 +141,7 @@ impl Connections {
 
     /// Takes the first `count` of the bytes that are on their way on the connection at a place, at most all, and counts them as delivered; none
     /// where there is no connection. Where all are taken at once they are not copied. Without memory nothing changes.
+    #[tactic(auto, using(crate::proofs::Changed::set_is_change))]
     pub fn take(&mut self, alloc: Global, place: usize, count: usize) -> Result<Bytes, NoMemory>
         ensures bytes { IfOk result (λ b. b ≡ taken count (slice_get self.old place)) }
         ensures ok { OnOk result (self.new ≡ change_at place (with_delivered count) self.old) }
@@ -156,6 +158,7 @@ impl Connections {
     }
 
     /// Ends the near side of the connection at a place, if there is one. What is on its way stays so.
+    #[tactic(auto, using(crate::proofs::Changed::set_is_change))]
     pub fn end_near(&mut self, place: usize)
         ensures { self.new ≡ change_at place near_ended self.old }
     {
@@ -168,6 +171,7 @@ impl Connections {
     }
 
     /// Ends the far side of the connection at a place, if there is one. What is on its way on it is lost.
+    #[tactic(auto, using(crate::proofs::Changed::set_is_change, crate::proofs::Changed::load_within))]
     pub fn end_far(&mut self, place: usize)
         ensures { self.new ≡ change_at place far_ended self.old }
     {
