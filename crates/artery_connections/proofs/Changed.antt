@@ -23,7 +23,7 @@ pub set_is_change : {X : Type 0} (f : X → X) (xs : List X) (i : ℕ) (x y : X)
 set_is_change f xs i x y within here is =
     ap (set xs i) is ∙ sym (ap (put_at i f xs) (slice_get_read xs (length xs) i x refl within here))
 
-there : {X : Type 0} (xs : List X) (i k : ℕ) (y : X) → i < length xs → k ≡ i → slice_get (set xs i y) k ≡ Some y
+pub there : {X : Type 0} (xs : List X) (i k : ℕ) (y : X) → i < length xs → k ≡ i → slice_get (set xs i y) k ≡ Some y
 there [] i k y within is = absurd (omega arith)
 there (x ∷ xs) zero zero y within is = refl
 there (x ∷ xs) zero (suc k) y within is = absurd (omega arith)
@@ -37,10 +37,10 @@ elsewhere (x ∷ xs) zero (suc k) y other = refl
 elsewhere (x ∷ xs) (suc i) zero y other = refl
 elsewhere (x ∷ xs) (suc i) (suc k) y other = elsewhere xs i k y (omega arith)
 
-same_place : (i k : ℕ) → is_at (nat_cmp i) k ≡ true → k ≡ i
+pub same_place : (i k : ℕ) → is_at (nat_cmp i) k ≡ true → k ≡ i
 same_place i k e = grind (arith, nat_tests)
 
-other_place : (i k : ℕ) → is_at (nat_cmp i) k ≡ false → k ≢ i
+pub other_place : (i k : ℕ) → is_at (nat_cmp i) k ≡ false → k ≢ i
 other_place i k e = grind (arith, nat_tests)
 
 -- ---- sets of places
@@ -116,7 +116,7 @@ pub near_ends : (made : List (Connection kept_ways)) (dialed inward : List (End 
     → HasNow i false n n' → IsIndexed (set made i y) dialed inward l n' f u
 near_ends made dialed inward l n f n' u i x y old within here is near =
     rw is (changed made dialed inward l n f l n' f u u i x (near_ended x) old within here (record { dialer = refl; dial = refl; far = refl; number = refl })
-        (stays is_loaded made l i x (near_ended x) old.loaded_ones within here refl) near (stays far_open made f i x (near_ended x) old.far_ones within here refl) refl)
+    (stays is_loaded made l i x (near_ended x) old.loaded_ones within here refl) near (stays far_open made f i x (near_ended x) old.far_ones within here refl) refl)
 
 -- its far side ends
 pub far_ends : (made : List (Connection kept_ways)) (dialed inward : List (End × ℕ)) (l n f l' f' : List ℕ) (u i : ℕ) (x y : Connection kept_ways)
@@ -126,7 +126,7 @@ far_ends made dialed inward l n f l' f' u i x y old within here is far loaded =
     let fits = load_within made i x within here in
     let sum = old.sum in
     rw is (changed made dialed inward l n f l' n f' u (u - load x) i x (far_ended x) old within here (record { dialer = refl; dial = refl; far = refl; number = refl })
-        loaded (stays (λ c. c.near_open) made n i x (far_ended x) old.near_ones within here refl) far (omega arith))
+    loaded (stays (λ c. c.near_open) made n i x (far_ended x) old.near_ones within here refl) far (omega arith))
 
 -- bytes are taken from it
 both_loaded : (a b : ℕ) → b ≤ a → (nat_lt 0 a && nat_lt 0 b) ≡ nat_lt 0 b
@@ -143,8 +143,8 @@ takes made dialed inward l n f l' u i count x y taken old within here is loaded 
     let was = old.loaded_ones.each i ∙ ap (passes is_loaded) (slice_get_read made (length made) i x refl within here) in
     let still = ap (λ (b : Bool). b && is_loaded (with_delivered count x)) was ∙ both_loaded (load x) (load (with_delivered count x)) (omega arith) in
     rw is (changed made dialed inward l n f l' n f u (u - taken) i x (with_delivered count x) old within here (record { dialer = refl; dial = refl; far = refl; number = refl })
-        (λ k. loaded k ∙ ap (λ (b : Bool). cond (is_at (nat_cmp i) k) b (has l k)) (ap (λ (c : Connection kept_ways). has l i && is_loaded c) is ∙ still))
-        (stays (λ c. c.near_open) made n i x (with_delivered count x) old.near_ones within here refl) (stays far_open made f i x (with_delivered count x) old.far_ones within here refl) (omega arith))
+    (λ k. loaded k ∙ ap (λ (b : Bool). cond (is_at (nat_cmp i) k) b (has l k)) (ap (λ (c : Connection kept_ways). has l i && is_loaded c) is ∙ still))
+    (stays (λ c. c.near_open) made n i x (with_delivered count x) old.near_ones within here refl) (stays far_open made f i x (with_delivered count x) old.far_ones within here refl) (omega arith))
 
 -- bytes are written on it
 gains : (more : List ℕ) (x : Connection kept_ways) → load (with_bytes more x) ≡ load x + gained more x
@@ -160,8 +160,8 @@ pub is_written : (made : List (Connection kept_ways)) (dialed inward : List (End
 is_written made dialed inward l n f l' u u' i more x y old within here is loaded size =
     let sum = gains more x in
     rw is (changed made dialed inward l n f l' n f u u' i x (with_bytes more x) old within here (record { dialer = refl; dial = refl; far = refl; number = refl })
-        (λ k. loaded k ∙ ap (λ (c : Connection kept_ways). cond (is_at (nat_cmp i) k) (is_loaded c) (has l k)) is)
-        (stays (λ c. c.near_open) made n i x (with_bytes more x) old.near_ones within here refl) (stays far_open made f i x (with_bytes more x) old.far_ones within here refl) (omega arith))
+    (λ k. loaded k ∙ ap (λ (c : Connection kept_ways). cond (is_at (nat_cmp i) k) (is_loaded c) (has l k)) is)
+    (stays (λ c. c.near_open) made n i x (with_bytes more x) old.near_ones within here refl) (stays far_open made f i x (with_bytes more x) old.far_ones within here refl) (omega arith))
 
 -- or none are
 pub is_same : (made : List (Connection kept_ways)) (dialed inward : List (End × ℕ)) (l n f l' : List ℕ) (u i : ℕ) (x y : Connection kept_ways)
@@ -169,8 +169,8 @@ pub is_same : (made : List (Connection kept_ways)) (dialed inward : List (End ×
     → HasNow i (is_loaded y) l l' → IsIndexed (set made i y) dialed inward l' n f u
 is_same made dialed inward l n f l' u i x y old within here is loaded =
     rw is (changed made dialed inward l n f l' n f u u i x x old within here (record { dialer = refl; dial = refl; far = refl; number = refl })
-        (λ k. loaded k ∙ ap (λ (c : Connection kept_ways). cond (is_at (nat_cmp i) k) (is_loaded c) (has l k)) is)
-        (stays (λ c. c.near_open) made n i x x old.near_ones within here refl) (stays far_open made f i x x old.far_ones within here refl) refl)
+    (λ k. loaded k ∙ ap (λ (c : Connection kept_ways). cond (is_at (nat_cmp i) k) (is_loaded c) (has l k)) is)
+    (stays (λ c. c.near_open) made n i x x old.near_ones within here refl) (stays far_open made f i x x old.far_ones within here refl) refl)
 
 -- what is taken was on its way
 pub part_within : (made : List (Connection kept_ways)) (i count : ℕ) (x : Connection kept_ways) → i < length made → x ≡ get_or made i x → length (take count (undelivered_on x)) ≤ loads made

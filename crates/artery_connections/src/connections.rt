@@ -186,6 +186,7 @@ impl Connections {
     }
 
     /// Ends each near side and each far side of the incarnation with this UID. One pass over all connections.
+    #[tactic(auto, using(crate::proofs::Stopped::one_more))]
     pub fn end_all_with(&mut self, uid: u64)
         ensures { self.new ≡ map (ended_with uid) self.old }
     {
@@ -195,19 +196,21 @@ impl Connections {
     }
 
     /// Ends the sides of the incarnation with this UID on the connection at a place.
+    #[tactic(auto, using(crate::proofs::Stopped::both_end, crate::proofs::Stopped::far_ends, crate::proofs::Stopped::near_ends, crate::proofs::Stopped::none_ends))]
     fn end_with(&mut self, uid: u64, place: usize)
         ensures { self.new ≡ change_at place (ended_with uid) self.old }
     {
         let Some(connection) = self.get(place) else {
             return;
         };
-        let is_far = connection.far() == uid;
-        let is_near = connection.dialer() == uid;
-        if is_far {
-            self.end_far(place);
-        }
-        if is_near {
-            self.end_near(place);
+        match (connection.far() == uid, connection.dialer() == uid) {
+            (true, true) => {
+                self.end_far(place);
+                self.end_near(place);
+            }
+            (true, false) => self.end_far(place),
+            (false, true) => self.end_near(place),
+            (false, false) => {}
         }
     }
 
