@@ -1,18 +1,15 @@
 -- What is kept beside the connections, where one is changed at its place or one is made.
-use Rattle.std.proofs.Common.{◌≡◌, ◌≢◌, ℕ, zero, suc, ◌+◌, ◌-◌, ◌<◌, ◌≤◌, Bool, true, false, cond, not, ◌&&◌, List, [], ◌∷◌, ◌++◌, length, get_or, set, take, drop, slice_get, position, Some, None, refl, sym, ◌∙◌, ap, arith, length-set, length-append, length-take, length-drop}
-use Rattle.std.specs.Prelude.{Option, if◌then◌else◌, nat_lt}
+use Rattle.std.proofs.Common.{◌≡◌, ◌≢◌, ℕ, zero, suc, ◌+◌, ◌-◌, ◌<◌, ◌≤◌, Bool, true, false, cond, not, ◌&&◌, List, [], ◌∷◌, ◌++◌, length, get_or, set, take, slice_get, position, Some, refl, sym, ◌∙◌, ap, arith, length-set, length-append, length-take, length-drop}
+use Rattle.std.specs.Prelude.{if◌then◌else◌, nat_lt}
 use Rattle.std.specs.BTreeMap.{is_at}
 use Rattle.std.specs.List.{position_or_len}
-use Rattle.std.specs.Map.{lookup}
-use Rattle.std.specs.Option.{option_or}
 use Rattle.std.specs.Ordering.{nat_cmp}
 use Rattle.std.proofs.lemmas.Bool.Decides.{nat_tests}
-use Rattle.std.proofs.lemmas.Option.{slice_get_read, slice_get_past}
+use Rattle.std.proofs.lemmas.Option.{slice_get_read}
 use Rattle.artery_machine.specs.Lists.{change_at, put_at}
 use Rattle.artery_machine.specs.Ways.{kept_ways}
-use Rattle.artery_machine.specs.Connections.{Connection, is_dialed, is_inward, place_dialed, place_inward, is_loaded, far_open, load, loads, near_ended, far_ended, with_delivered, undelivered_on}
+use Rattle.artery_machine.specs.Connections.{Connection, is_dialed, is_inward, is_loaded, far_open, load, loads, near_ended, far_ended, with_delivered, undelivered_on}
 use Rattle.artery_connections.specs.declared.end.End.{End}
-use Rattle.artery_connections.specs.Ends.{same_end}
 use Rattle.artery_connections.specs.Change.{with_bytes, gained, taken}
 use Rattle.artery_connections.specs.Kept.{has, passes, HasPlaces, IsIndexed}
 

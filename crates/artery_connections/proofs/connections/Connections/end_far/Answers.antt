@@ -1,4 +1,4 @@
-use Rattle.std.proofs.Common.{rules, ◌∙◌}
+use Rattle.std.proofs.Common.{rules}
 use Rattle.artery_connections.proofs.Changed.{far_ends}
 use Rattle.artery_connections.proofs.connections.Connections.end_far.Goals as goal
 

@@ -1,4 +1,4 @@
-use Rattle.std.proofs.Common.{rules, refl, sym, ◌∙◌, ap, arith, length}
+use Rattle.std.proofs.Common.{rules, arith}
 use Rattle.std.proofs.lemmas.Grind.{common_steps}
 use Rattle.artery_connections.proofs.Made.{made_in_room}
 use Rattle.artery_connections.proofs.connections.Connections.push.Goals as goal

@@ -1,5 +1,4 @@
-use Rattle.std.proofs.Common.{rules, ◌∙◌, sym, ap, length, arith, slice_get}
-use Rattle.artery_connections.specs.Change.{taken}
+use Rattle.std.proofs.Common.{rules, ◌∙◌, sym, ap, length, arith}
 use Rattle.artery_connections.proofs.Changed.{takes, part_within, part_is}
 use Rattle.artery_connections.proofs.connections.Connections.take.Goals as goal
 

@@ -1,4 +1,4 @@
-use Rattle.std.proofs.Common.{rules, ◌∙◌}
+use Rattle.std.proofs.Common.{rules}
 use Rattle.artery_connections.proofs.Changed.{is_written, is_same}
 use Rattle.artery_connections.proofs.connections.Connections.write.Goals as goal
 
