@@ -1,0 +1,4 @@
+pub mod Change
+pub mod Ends
+pub mod Next
+pub mod Kept
