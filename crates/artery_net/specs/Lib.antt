@@ -1,0 +1,3 @@
+pub mod Feeding
+pub mod InMemory
+pub mod Story
