@@ -82,7 +82,7 @@ pub event_marked : (telling : Bool) (marks after : List Bool) (es : List NetEven
 event_marked true marks after es at next done b h e n =
     let kept : left_behind after es ≡ drop next es = ap (λ m. left_behind m es) e ∙ left_last marks es ∙ ap rest h.0 ∙ sym (ap (λ k. drop k es) n ∙ drop_after es at b) in
     let same : acts_marked after ≡ length done = ap acts_marked e ∙ marked_same marks ∙ h.1 in
-    (kept , same)
+    (kept, same)
 event_marked false marks after es at next done b h e n = tt
 
 -- by which its story goes on
@@ -109,7 +109,7 @@ pub act_marked : (telling : Bool) (marks after : List Bool) (es left : List NetE
 act_marked true marks after es left done more a t h e f =
     let kept : left_behind after es ≡ left = ap (λ m. left_behind m es) e ∙ left_same marks es ∙ h.0 in
     let count : acts_marked after ≡ length more = ap acts_marked e ∙ marked_last marks ∙ ap (λ n. n + 1) h.1 ∙ sym (ap length f ∙ length_push done a) in
-    (kept , count)
+    (kept, count)
 act_marked false marks after es left done more a t h e f = tt
 
 -- by which its story goes on

@@ -20,8 +20,8 @@ mod net;
 mod net_events;
 mod offer;
 mod offers;
-//mod socket_net;
-//mod socket_peer;
+mod socket_net;
+mod socket_peer;
 
 pub use acts::Acts;
 pub use artery_machine::Conn;
@@ -33,7 +33,7 @@ pub use net::Net;
 pub use net_events::NetEvents;
 pub use offer::Offer;
 pub use offers::Offers;
-//pub use socket_net::SocketNet;
+pub use socket_net::SocketNet;
 
 //cfg
 //mod tests;
