@@ -35,5 +35,5 @@ pub use offer::Offer;
 pub use offers::Offers;
 pub use socket_net::SocketNet;
 
-//cfg
-//mod tests;
+#[cfg(test)]
+mod tests;
