@@ -45,19 +45,25 @@ fn memory_net(alloc: Global, failing: &[u64]) -> Result<MemNet, NoMemory> {
     Ok(MemNet::new(alloc, events(alloc)?, numbers))
 }
 
-/// What six calls of `next` give, each as a number: 9 where it fails, and 0 for `Idle`.
+/// What an answer is, as a number: 9 where it failed, and 0 for `Idle`.
+fn kind(answer: &Result<NetEvent, NetFault>) -> u64 {
+    match answer {
+        Ok(NetEvent::Accepted { .. }) => 1,
+        Ok(NetEvent::Bytes { .. }) => 2,
+        Ok(NetEvent::Tick { .. }) => 3,
+        Ok(NetEvent::Idle) => 0,
+        Err(NetFault::Failed) => 9,
+        _ => 8,
+    }
+}
+
+/// What six calls of `next` give, as such numbers.
 fn given(alloc: Global, failing: &[u64]) -> Result<[u64; 6], NoMemory> {
     let mut net = memory_net(alloc, failing)?;
     let mut kinds = [7; 6];
-    for kind in kinds.iter_mut() {
-        *kind = match net.next(alloc) {
-            Ok(NetEvent::Accepted { conn: 1 }) => 1,
-            Ok(NetEvent::Bytes { conn: 1, piece }) if piece.as_slice() == b"hello".as_slice() => 2,
-            Ok(NetEvent::Tick { now: 100 }) => 3,
-            Ok(NetEvent::Idle) => 0,
-            Err(NetFault::Failed) => 9,
-            _ => 8,
-        };
+    for found in kinds.iter_mut() {
+        let answer = net.next(alloc);
+        *found = kind(&answer);
     }
     Ok(kinds)
 }
@@ -133,26 +139,60 @@ fn offers(alloc: Global) -> Result<Offers, NoMemory>
     Ok(offers)
 }
 
-/// Whether they come out in order, and then the end, again and again.
-fn offers_come(alloc: Global) -> Result<bool, NoMemory> {
-    let mut feed = ListFeed::new(offers(alloc)?, 2);
+/// A feed of these offers.
+fn list_feed(alloc: Global) -> Result<ListFeed, NoMemory> {
+    let offers = offers(alloc)?;
+    Ok(ListFeed::new(offers, 2))
+}
+
+/// Whether the next take gives this.
+fn gives<F: Feed>(feed: &mut F, want: &Fed) -> bool {
+    let fed = feed.take();
+    fed == *want
+}
+
+/// Whether the next take gives the line.
+fn line_comes<F: Feed>(alloc: Global, feed: &mut F) -> Result<bool, NoMemory> {
+    let request = line(alloc)?;
     let first = Fed::Item(Offer::Line {
         sender: 0,
         k: 0,
-        request: line(alloc)?,
+        request,
     });
+    let is_first = gives(feed, &first);
+    Ok(is_first)
+}
+
+/// Whether the offers between the line and the last one come out then.
+fn others_come<F: Feed>(feed: &mut F) -> bool {
+    let second = Fed::Item(Offer::Finished { sender: 0 });
     let third = Fed::Item(Offer::Skipped {
         sender: 1,
         k: 0,
         seen: 0,
         now: 1,
     });
-    let is_first = feed.take() == first;
-    let is_second = feed.take() == Fed::Item(Offer::Finished { sender: 0 });
-    let is_third = feed.take() == third;
-    let is_fourth = feed.take() == Fed::Item(Offer::Finished { sender: 1 });
-    let is_ended = feed.take() == Fed::Ended && feed.take() == Fed::Ended;
-    Ok(is_first && is_second && is_third && is_fourth && is_ended)
+    let is_second = gives(feed, &second);
+    let is_third = gives(feed, &third);
+    is_second && is_third
+}
+
+/// Whether the last offer comes out then, and the end, again and again.
+fn end_comes<F: Feed>(feed: &mut F) -> bool {
+    let last = Fed::Item(Offer::Finished { sender: 1 });
+    let is_last = gives(feed, &last);
+    let is_end = gives(feed, &Fed::Ended);
+    let is_end_again = gives(feed, &Fed::Ended);
+    is_last && is_end && is_end_again
+}
+
+/// Whether all offers come out in order, and then the end.
+fn offers_come(alloc: Global) -> Result<bool, NoMemory> {
+    let mut feed = list_feed(alloc)?;
+    let is_line = line_comes(alloc, &mut feed)?;
+    let is_rest = others_come(&mut feed);
+    let is_end = end_comes(&mut feed);
+    Ok(is_line && is_rest && is_end)
 }
 
 #[test]
