@@ -1,11 +1,10 @@
 -- The story of a net in memory goes on by what is marked last.
-use Rattle.std.proofs.Common.{◌≡◌, ℕ, suc, ◌+◌, Bool, true, false, List, [], ◌∷◌, ◌++◌, ◌≤◌, ◌<◌, ◌⊎◌, inl, inr, min, subst, length, drop, Option, Some, None, ap, ◌∙◌, sym, zero, arith, refl}
+use Rattle.std.proofs.Common.{◌≡◌, ℕ, suc, ◌+◌, Bool, true, false, List, [], ◌∷◌, ◌++◌, ◌≤◌, ◌<◌, ◌⊎◌, inl, inr, min, subst, length, drop, ap, ◌∙◌, sym, zero, arith, refl}
 use Rattle.std.proofs.lemmas.List.{length_push}
 use Rattle.std.proofs.Math.Seq.{drop-nil, drop-length}
 use Rattle.std.proofs.Math.Nat.{eq-or-lt_of_le}
 use Rattle.artery_net.specs.declared.event.NetEvent.{NetEvent}
 use Rattle.artery_net.specs.declared.event.Act.{Act}
-use Rattle.artery_net.specs.declared.event.Step.{Step}
 use Rattle.artery_net.specs.declared.event.Step.TheVariants.{Gave, Did}
 use Rattle.artery_net.specs.InMemory.{first, rest, woven, left_behind, acts_marked, told, marked, AreMarked, AreFit}
 use Rattle.artery_net.specs.Story.{acts_of, GoesOn, IsFit, moment_after}
