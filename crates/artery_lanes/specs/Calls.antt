@@ -1,13 +1,16 @@
 -- What contracts see of a lane, a pass and a taker, and what the calls answer.
-use Rattle.std.specs.Prelude.{◌≡◌, ℕ, zero, suc, ◌+◌, ◌<◌, ◌≤◌, nat_lt, Bool, true, false, Option, Some, None, List, [], ◌∷◌, ◌++◌, length, slice_index}
+use Rattle.std.specs.Prelude.{◌≡◌, ℕ, zero, suc, ◌+◌, ◌<◌, ◌≤◌, nat_lt, Bool, true, false, Option, Some, None, List, [], ◌∷◌, ◌++◌, length, slice_index, slice_set}
 use Rattle.artery_base.specs.Words.{IsPrefix}
 use Rattle.atomic_table.specs.Seated.{TableId}
 use Rattle.crossbeam_queue.specs.Fifo.{Held}
 use Rattle.artery_lanes.specs.declared.entry.Entry.{Entry}
 use Rattle.artery_lanes.specs.declared.entry.Item.{Item}
 use Rattle.artery_lanes.specs.declared.entry.Item.TheVariants as items
-use Rattle.artery_lanes.specs.declared.offer.Offer.{Offer}
-use Rattle.artery_lanes.specs.declared.offer.Offer.TheVariants as offer
+use Rattle.artery_net.specs.declared.offer.Offer.{Offer}
+use Rattle.artery_net.specs.declared.offer.Offer.TheVariants as offer
+use Rattle.artery_net.specs.declared.feed.Fed.{Fed}
+use Rattle.artery_net.specs.declared.feed.Fed.TheVariants as fed
+use Rattle.artery_net.specs.Feeding.{has_finished}
 use Rattle.artery_lanes.specs.declared.offered.Want.{Want}
 use Rattle.artery_lanes.specs.declared.offered.Offered.{Offered}
 use Rattle.artery_lanes.specs.declared.offered.Offered.TheVariants.{Accepted, Full, Closed}
@@ -111,3 +114,25 @@ Takes t t' o = (e : Entry) × IsNext t.made t.got e × (o ≡ offer_of e) × (t'
 -- What was taken of an ended sender begins its accepted list.
 abbrev pub GotFirst : List Entry → PassState → Type 0
 GotFirst got p = IsPrefix (of p.sender got) (numbered p.sender 0 p.accepted)
+
+-- The offers that entries are told as, in order.
+abbrev pub given_of : List Entry → List Offer
+given_of [] = []
+given_of (e ∷ es) = offer_of e ∷ given_of es
+
+-- For each sender below a number, whether its Finished is among these offers.
+abbrev pub finishing : ℕ → List Offer → List Bool
+finishing zero os = []
+finishing (suc n) os = finishing n os ++ has_finished n os ∷ []
+
+-- These marks, once an item of this sender was taken: a Finished marks its sender.
+abbrev pub marked : ℕ → Item → List Bool → List Bool
+marked s (items.Line request) marks = marks
+marked s (items.Skipped seen now) marks = marks
+marked s items.Finished marks = slice_set marks s true
+
+-- A feed over a lane answers Empty only where the queue was empty at one moment of the call.
+abbrev pub EmptyOnlyAt : TakerState → Fed → Type 0
+EmptyOnlyAt t (fed.Item o) = Unit {0}
+EmptyOnlyAt t fed.Empty = WasEmpty t
+EmptyOnlyAt t fed.Ended = Unit {0}

@@ -102,6 +102,7 @@ fn all_passes(
 impl Lane {
     /// A lane of 1 to 1,024 places that holds nothing, with a pass for each of 1 to 16 senders, and its taker. It keeps the gate. Fails only
     /// for want of memory.
+    #[tactic(auto, using(crate::proofs::FeedSteps::none_finished))]
     pub fn new(
         alloc: Global,
         capacity: usize,
@@ -116,11 +117,13 @@ impl Lane {
     {
         let (queue, mut inner) = Queue::ruled(alloc, capacity)?;
         let passes = all_passes(alloc, &queue, &mut inner, senders)?;
+        let finished = Vec::from_elem(alloc, false, senders as usize)?;
         let queue = Arc::new(alloc, queue)?;
         let theirs = Arc::try_clone(&queue)?;
         let taker = Taker {
             queue: theirs,
             inner,
+            finished,
         };
         Ok((Lane { queue, gate }, passes, taker))
     }

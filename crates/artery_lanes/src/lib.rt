@@ -13,6 +13,8 @@
 //! queued, are its accepted list, each with its place in it: so each take gives the next one of its sender, and what was taken of a
 //! sender begins its accepted list, as `take_in` says of the pass that it ends.
 //!
+//! A [`LaneFeed`] gives what a taker takes as the feed of a node, and ends where each sender's `Finished` was taken.
+//!
 //! Not promised: the order between senders, fairness, and time.
 #![tactic(auto)]
 
@@ -20,20 +22,21 @@ mod entry;
 mod gate;
 mod gate_view;
 mod lane;
+mod lane_feed;
 mod lane_rule;
 mod lane_view;
-mod offer;
 mod offered;
 mod passes;
 mod sender_pass;
 mod taker;
 
+pub use artery_net::Offer;
 pub use entry::{Entry, Item};
 pub use gate::{Gate, GateState, Seat};
 pub use gate_view::SeatView;
 pub use lane::Lane;
+pub use lane_feed::LaneFeed;
 pub use lane_view::LaneView;
-pub use offer::Offer;
 pub use offered::{Offered, Want};
 pub use passes::Passes;
 pub use sender_pass::SenderPass;

@@ -1,10 +1,10 @@
-//! What a taker gives.
+//! What senders offer.
 use artery_base::Request;
 
-/// An item that was accepted of a sender: the sender's number from 0, and the item's place among those accepted of it, from 0.
+/// What a sender offers. Senders are numbered from 0.
 #[derive(Debug, PartialEq, Eq, Drop)]
 pub enum Offer {
-    /// A request to the node.
+    /// A request to the node, and its place among the items of its sender, from 0.
     Line {
         sender: u32,
         k: u64,
@@ -17,7 +17,7 @@ pub enum Offer {
         seen: u64,
         now: u64,
     },
-    /// The sender is done.
+    /// The sender is done, and offers nothing more.
     Finished {
         sender: u32,
     },
