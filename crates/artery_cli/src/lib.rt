@@ -30,6 +30,8 @@ pub use refusal::Refusal;
 pub use top::run;
 
 #[cfg(test)]
+mod audit_tests;
+#[cfg(test)]
 mod journal_tests;
 #[cfg(test)]
 mod tests;

@@ -5,3 +5,4 @@ pub mod RuleLaws
 pub mod LineLaws
 pub mod Items
 pub mod Forms
+pub mod PlainWords

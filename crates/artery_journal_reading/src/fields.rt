@@ -1,5 +1,5 @@
 //! The fields of a line, taken one after the other.
-ghost use Rattle.std.specs.Prelude.{◌≡◌, ◌+◌, ◌≤◌, ◌<◌, length, take, drop, position, IfSome};
+ghost use Rattle.std.specs.Prelude.{◌≡◌, ◌+◌, ◌≤◌, ◌<◌, length, take, drop, position, Some, IfSome, IsTrue};
 ghost use Rattle.std.specs.List.{list_all};
 ghost use Rattle.artery_text.specs.Spelling.{is_plain};
 ghost use Rattle.artery_text.specs.Reading.{number_of, int32_of};
@@ -9,22 +9,17 @@ ghost use Rattle.artery_script.specs.Reading.{Reads, field, address_told, word_t
 ghost use Rattle.artery_journal_reading.specs.Reading.{unique_told, name_told, nonce_told, kind_told, which_told, cause_told, reason_told, path_told};
 
 use crate::path_text::path_from;
+use crate::recent::Recent;
 use crate::word_text::{cause_from, kind_from, reason_from, which_from};
 use artery_base::{Address, Bytes, Text, UniqueAddress};
 use artery_journal::{Cause, Kind, Path, Reason, Which};
 use artery_lines::{LineFault, Tokens};
 use artery_script::MOMENT_END;
 use artery_text::{
-    TextFault, read_address, read_hex, read_int32, read_number, read_unique, read_word, text_of,
+    TextFault, read_address, read_hex, read_int32, read_number, read_word, spellings_are_read,
+    text_of,
 };
 use std::alloc::Global;
-
-#[tactic(auto, using(crate::proofs::Told::tells_unique))]
-fn unique_from(alloc: Global, text: &[u8]) -> Result<UniqueAddress, LineFault>
-    ensures { Tells result (unique_told text.now) }
-{
-    Ok(read_unique(alloc, text)?)
-}
 
 #[tactic(auto, using(artery_script::proofs::Told::tells_address))]
 fn address_from(alloc: Global, text: &[u8]) -> Result<Address, LineFault>
@@ -33,10 +28,30 @@ fn address_from(alloc: Global, text: &[u8]) -> Result<Address, LineFault>
     Ok(read_address(alloc, text)?)
 }
 
+// Whether a text is the word for its own bytes: most words are, and then need not be read byte by byte.
+fn is_own_word(text: &[u8]) -> bool
+    ensures { IsTrue result → word_told text.now ≡ Some text.now }
+{
+    spellings_are_read();
+    if text == b"-".as_slice() {
+        return false;
+    }
+    if text.is_empty() {
+        return false;
+    }
+    if text[0] == b'@' {
+        return false;
+    }
+    are_plain(text)
+}
+
 #[tactic(auto, using(artery_script::proofs::Told::tells_bytes))]
 fn word_from(alloc: Global, text: &[u8]) -> Result<Bytes, LineFault>
     ensures { Tells result (word_told text.now) }
 {
+    if is_own_word(text) {
+        return Ok(Bytes::from_slice(alloc, text)?);
+    }
     Ok(read_word(alloc, text)?)
 }
 
@@ -60,6 +75,9 @@ fn ascii_from(alloc: Global, bytes: &[u8]) -> Result<Text, LineFault>
 fn name_from(alloc: Global, text: &[u8]) -> Result<Text, LineFault>
     ensures { Tells result (name_told text.now) }
 {
+    if is_own_word(text) {
+        return ascii_from(alloc, text);
+    }
     let bytes = word_from(alloc, text)?;
     ascii_from(alloc, bytes.as_slice())
 }
@@ -147,16 +165,17 @@ fn actor_from(alloc: Global, text: &[u8]) -> Result<Text, LineFault>
     actor_at(alloc, text, at)
 }
 
-pub(crate) fn take_unique(
+pub(crate) fn take_unique<'a>(
     alloc: Global,
-    fields: &mut Tokens<'_>,
+    recent: &mut Recent<'a>,
+    fields: &mut Tokens<'a>,
 ) -> Result<UniqueAddress, LineFault>
     ensures { Reads result fields.new (field unique_told fields.old) }
 {
     let Some(text) = fields.next() else {
         return Err(LineFault::BadLine);
     };
-    let unique = unique_from(alloc, text)?;
+    let unique = recent.unique(alloc, text)?;
     Ok(unique)
 }
 

@@ -7,24 +7,35 @@ ghost use Rattle.artery_journal_reading.specs.Journals.{told_at, items_from, as_
 
 use crate::fault::JournalFault;
 use crate::line_text::{line_from, stamped_from};
+use crate::recent::Recent;
 use artery_journal::{Journal, Line, Lines, Stamped, StampedLines};
 use artery_lines::{LineFault, TextLines, has_few_lines};
 use std::alloc::Global;
 
-fn line_at(alloc: Global, n: u64, text: &[u8]) -> Result<Line, JournalFault>
+fn line_at<'a>(
+    alloc: Global,
+    recent: &mut Recent<'a>,
+    n: u64,
+    text: &'a [u8],
+) -> Result<Line, JournalFault>
     ensures { Gives journal_memory result (told_at n (line_of text.now)) }
 {
-    match line_from(alloc, text) {
+    match line_from(alloc, recent, text) {
         Ok(line) => Ok(line),
         Err(LineFault::BadLine) => Err(JournalFault::BadLine { line: n }),
         Err(LineFault::NoMemory) => Err(JournalFault::NoMemory),
     }
 }
 
-fn stamped_at(alloc: Global, n: u64, text: &[u8]) -> Result<Stamped, JournalFault>
+fn stamped_at<'a>(
+    alloc: Global,
+    recent: &mut Recent<'a>,
+    n: u64,
+    text: &'a [u8],
+) -> Result<Stamped, JournalFault>
     ensures { Gives journal_memory result (told_at n (stamped_of text.now)) }
 {
-    match stamped_from(alloc, text) {
+    match stamped_from(alloc, recent, text) {
         Ok(stamped) => Ok(stamped),
         Err(LineFault::BadLine) => Err(JournalFault::BadLine { line: n }),
         Err(LineFault::NoMemory) => Err(JournalFault::NoMemory),
@@ -38,11 +49,12 @@ fn read_lines(alloc: Global, text: &[u8]) -> Result<Lines, JournalFault>
     ensures { Gives journal_memory result (items_from line_of 1 (lines_of text.now)) }
 {
     let mut left = TextLines::new(text);
+    let mut recent = Recent::new();
     let mut lines = Lines::new(alloc);
     let mut n = 0;
     while let Some(told) = left.next() {
         n += 1;
-        let line = line_at(alloc, n, told)?;
+        let line = line_at(alloc, &mut recent, n, told)?;
         lines.push(line)?;
     }
     Ok(lines)
@@ -54,11 +66,12 @@ fn read_stamped_lines(alloc: Global, mut left: TextLines<'_>) -> Result<StampedL
     requires { length left ≤ most_lines }
     ensures { Gives journal_memory result (items_from stamped_of 2 left.entry) }
 {
+    let mut recent = Recent::new();
     let mut lines = StampedLines::new(alloc);
     let mut n = 1;
     while let Some(told) = left.next() {
         n += 1;
-        let line = stamped_at(alloc, n, told)?;
+        let line = stamped_at(alloc, &mut recent, n, told)?;
         lines.push(line)?;
     }
     Ok(lines)

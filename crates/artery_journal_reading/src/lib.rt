@@ -13,6 +13,7 @@ mod laws;
 mod line_text;
 mod message_text;
 mod path_text;
+mod recent;
 mod rule_text;
 mod word_text;
 

@@ -156,6 +156,16 @@ node_there x es new v w s m there is one a = noted_there (eq_incarnation x) (is_
 pub node_new : (x : Incarnation) (es new : List (Incarnation × Node)) (s : Bool) (m : ℕ) → lookup (eq_incarnation x) es ≡ None → new ≡ insert_entry eq_incarnation es x (noted s m None) → (a : UniqueAddress) → node_at a new ≡ (if same a x.of.now then Some (noted s m (node_at a es)) else node_at a es)
 node_new x es new s m gone is a = noted_new eq_incarnation x (is_node a) _ (fits_node x a) (incarnation_laws.refl x) es new s m gone is
 
+-- what is kept of an incarnation stays, where a line more changes nothing
+pub node_unchanged : (u : UniqueAddress) (es : List (Incarnation × Node)) (node : Node) (s : Bool) (m : ℕ) → node_at u es ≡ Some node → noted s m (Some node) ≡ node → (a : UniqueAddress) → node_at a es ≡ (if same a u then Some (noted s m (node_at a es)) else node_at a es)
+node_unchanged u es node s m there none a = by (same a u) refl
+  where
+    by : (c : Bool) → same a u ≡ c → node_at a es ≡ (if c then Some (noted s m (node_at a es)) else node_at a es)
+    by true h =
+        let at : node_at a es ≡ Some node = (λ i. lookup (λ k. same_alike a u h i k.of.now) es) ∙ there in
+        at ∙ ap (λ n. Some n) (sym none) ∙ ap (λ o. Some (noted s m o)) (sym at)
+    by false h = refl
+
 pub any_map : {X Y : Type 0} (test : Y → Bool) (f : X → Y) (xs : List X) → list_any test (map f xs) ≡ list_any (λ x. test (f x)) xs
 any_map test f [] = refl
 any_map test f (x ∷ xs) = ap (λ b. test (f x) || b) (any_map test f xs)

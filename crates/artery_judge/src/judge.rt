@@ -1,12 +1,12 @@
 //! The judge: what it keeps of the lines taken so far.
-ghost use Rattle.std.specs.Prelude.{◌≡◌, ℕ, Option, None, List, [], ◌∷◌, ◌++◌, OnOk, IfOk, Ok};
+ghost use Rattle.std.specs.Prelude.{◌≡◌, ℕ, Option, None, List, [], ◌∷◌, ◌++◌, OnOk, IfOk, IfSome, Ok, Some};
 ghost use Rattle.artery_judge.specs.Lines.{Entry, of as of_line, is_stopped as stops, is_started as starts};
 ghost use Rattle.artery_judge.specs.Laws.{broken_law};
 ghost use Rattle.artery_judge.specs.Kept.{Stands, Takes, finds_prefix, finds_closed, finds_watch, finds_ordinary, finds_stopped, finds_moment, found_law};
 ghost use Rattle.artery_judge.specs.Lines.{says_took, says_got, deals as dealings};
-ghost use Rattle.artery_judge.specs.Views.{kept};
+ghost use Rattle.artery_judge.specs.Views.{kept, node_at};
 
-use crate::nodes::Nodes;
+use crate::nodes::{Node, Nodes};
 use crate::sent::Sent;
 use crate::sets::{ClosedPairs, Watches};
 use crate::told::Told;
@@ -165,24 +165,33 @@ impl<'a> Judge<'a> {
         }
     }
 
-    /// Whether a line breaks the stopped law.
-    fn breaks_stopped(&self, line: &'a Line) -> bool
+    /// What is kept of the incarnation whose line it is.
+    fn node(&self, line: &'a Line) -> Option<Node>
+        ensures { result ≡ node_at (of_line line.now) self.now.nodes }
+    {
+        self.nodes.get(of(line))
+    }
+
+    /// Whether a line breaks the stopped law, as what is kept of its incarnation tells.
+    fn breaks_stopped(&self, node: Option<Node>, line: &'a Line) -> bool
+        requires { node ≡ node_at (of_line line.now) self.now.nodes }
         ensures { result ≡ finds_stopped (kept self.now) line.now }
     {
-        match self.nodes.get(of(line)) {
+        match node {
             Some(node) => node.stopped || is_started(line),
             None => false,
         }
     }
 
-    /// Whether a line breaks the moment law.
-    fn breaks_moment(&self, moment: Option<u64>, line: &'a Line) -> bool
+    /// Whether a line breaks the moment law, as what is kept of its incarnation tells.
+    fn breaks_moment(&self, node: Option<Node>, moment: Option<u64>, line: &'a Line) -> bool
+        requires { node ≡ node_at (of_line line.now) self.now.nodes }
         ensures { result ≡ finds_moment (kept self.now) (moment, line.now) }
     {
         let Some(moment) = moment else {
             return false;
         };
-        match self.nodes.get(of(line)) {
+        match node {
             Some(node) => moment < node.moment,
             None => false,
         }
@@ -193,11 +202,21 @@ impl<'a> Judge<'a> {
     pub fn breaks(&self, moment: Option<u64>, line: &'a Line) -> Option<Law>
         ensures { (before : List Entry) → Stands (kept self.now) before → result ≡ broken_law before (moment, line.now) }
     {
-        self.first(moment, line)
+        let node = self.node(line);
+        self.breaks_beside(node, moment, line)
     }
 
-    /// The first law that a line breaks, as what is kept tells.
-    fn first(&self, moment: Option<u64>, line: &'a Line) -> Option<Law>
+    /// The same, where it is known what is kept of the line's incarnation.
+    fn breaks_beside(&self, node: Option<Node>, moment: Option<u64>, line: &'a Line) -> Option<Law>
+        requires { node ≡ node_at (of_line line.now) self.now.nodes }
+        ensures { (before : List Entry) → Stands (kept self.now) before → result ≡ broken_law before (moment, line.now) }
+    {
+        self.first(node, moment, line)
+    }
+
+    /// The first law that a line breaks, as what is kept tells, of its incarnation this.
+    fn first(&self, node: Option<Node>, moment: Option<u64>, line: &'a Line) -> Option<Law>
+        requires { node ≡ node_at (of_line line.now) self.now.nodes }
         ensures { result ≡ found_law (kept self.now) (moment, line.now) }
     {
         if self.breaks_prefix(line) {
@@ -212,17 +231,16 @@ impl<'a> Judge<'a> {
         if self.breaks_ordinary(line) {
             return Some(Law::Ordinary);
         }
-        if self.breaks_stopped(line) {
+        if self.breaks_stopped(node, line) {
             return Some(Law::Stopped);
         }
-        if self.breaks_moment(moment, line) {
+        if self.breaks_moment(node, moment, line) {
             return Some(Law::Moment);
         }
         None
     }
 
     /// Takes the next line, with its moment if it has one, which breaks no law. Without memory the judge stands for no lines any more.
-    #[tactic(auto, using(crate::proofs::Standing::takes_stands))]
     pub fn take(
         &mut self,
         alloc: Global,
@@ -231,7 +249,22 @@ impl<'a> Judge<'a> {
     ) -> Result<(), NoMemory>
         ensures { OnOk result ((before : List Entry) → Stands (kept self.old) before → broken_law before (moment, line.now) ≡ None → Stands (kept self.new) (before ++ (moment, line.now) ∷ [])) }
     {
-        self.keep(alloc, moment, line)?;
+        self.take_beside(alloc, None, moment, line)
+    }
+
+    /// The same, where it may be known what is kept of the line's incarnation.
+    #[tactic(auto, using(crate::proofs::Standing::takes_stands))]
+    fn take_beside(
+        &mut self,
+        alloc: Global,
+        node: Option<Node>,
+        moment: Option<u64>,
+        line: &'a Line,
+    ) -> Result<(), NoMemory>
+        requires { IfSome node (λ n. node_at (of_line line.now) self.old.nodes ≡ Some n) }
+        ensures { OnOk result ((before : List Entry) → Stands (kept self.old) before → broken_law before (moment, line.now) ≡ None → Stands (kept self.new) (before ++ (moment, line.now) ∷ [])) }
+    {
+        self.keep(alloc, node, moment, line)?;
         Ok(())
     }
 
@@ -245,20 +278,28 @@ impl<'a> Judge<'a> {
         ensures law { (before : List Entry) → Stands (kept self.old) before → IfOk result (λ law. law ≡ broken_law before (moment, line.now)) }
         ensures taken { (before : List Entry) → Stands (kept self.old) before → result ≡ Ok None → Stands (kept self.new) (before ++ (moment, line.now) ∷ []) }
     {
-        let broken = self.breaks(moment, line);
+        let node = self.node(line);
+        let broken = self.breaks_beside(node, moment, line);
         if broken.is_some() {
             return Ok(broken);
         }
-        self.take(alloc, moment, line)?;
+        self.take_beside(alloc, node, moment, line)?;
         Ok(None)
     }
 
-    /// Keeps what a line tells.
-    fn keep(&mut self, alloc: Global, moment: Option<u64>, line: &'a Line) -> Result<(), NoMemory>
+    /// Keeps what a line tells, of whose incarnation it is known what is kept, if that is told.
+    fn keep(
+        &mut self,
+        alloc: Global,
+        node: Option<Node>,
+        moment: Option<u64>,
+        line: &'a Line,
+    ) -> Result<(), NoMemory>
+        requires { IfSome node (λ n. node_at (of_line line.now) self.old.nodes ≡ Some n) }
         ensures { OnOk result (Takes (moment, line.now) (kept self.old) (kept self.new)) }
     {
         self.nodes
-            .note(of(line), is_stopped(line), moment.unwrap_or(0))?;
+            .note_beside(node, of(line), is_stopped(line), moment.unwrap_or(0))?;
         match line {
             Line::Sent {
                 of,

@@ -1,5 +1,5 @@
 //! What the judge keeps of each incarnation that has a line.
-ghost use Rattle.std.specs.Prelude.{◌≡◌, [], Some, OnOk, if◌then◌else◌};
+ghost use Rattle.std.specs.Prelude.{◌≡◌, [], Some, OnOk, IfSome, IsTrue, if◌then◌else◌};
 ghost use Rattle.artery_base.specs.declared.address.UniqueAddress.{UniqueAddress};
 ghost use Rattle.artery_judge.specs.Lines.{same};
 ghost use Rattle.artery_judge.specs.Kept.{noted};
@@ -27,6 +27,13 @@ impl Node {
     {
         self.stopped = self.stopped || stopped;
         self.moment = self.moment.max(moment);
+    }
+
+    /// Whether such a line more changes nothing.
+    fn has_noted(&self, stopped: bool, moment: u64) -> bool
+        ensures { IsTrue result → noted stopped moment (Some self.now) ≡ self.now }
+    {
+        self.stopped == (self.stopped || stopped) && self.moment == self.moment.max(moment)
     }
 }
 
@@ -79,5 +86,25 @@ impl<'a> Nodes<'a> {
         self.nodes
             .insert(Incarnation { of }, Node { stopped, moment })?;
         Ok(())
+    }
+
+    /// Notes a line of an incarnation, of which it is known what is kept, if that is told.
+    #[tactic(auto, using(crate::proofs::KeyTests::node_unchanged))]
+    pub fn note_beside(
+        &mut self,
+        known: Option<Node>,
+        of: &'a UniqueAddress,
+        stopped: bool,
+        moment: u64,
+    ) -> Result<(), NoMemory>
+        requires { IfSome known (λ node. node_at of.now self.old ≡ Some node) }
+        ensures { OnOk result ((a : UniqueAddress) → node_at a self.new ≡ (if same a of.now then Some (noted stopped moment (node_at a self.old)) else node_at a self.old)) }
+    {
+        if let Some(node) = known {
+            if node.has_noted(stopped, moment) {
+                return Ok(());
+            }
+        }
+        self.note(of, stopped, moment)
     }
 }
