@@ -1,7 +1,6 @@
 //! One connection, and the bytes that are on their way on it.
-ghost use Rattle.std.specs.Prelude.{◌≡◌, ◌≤◌, ◌-◌, ◌==◌, ℕ, List, [], length, take, drop, vec_len, OnOk, OnErr, IfOk};
+ghost use Rattle.std.specs.Prelude.{◌≡◌, ◌≤◌, take, drop, vec_len, OnOk, OnErr, IfOk};
 ghost use Rattle.artery_machine.specs.Connections.{connected, far_open, load, is_loaded, undelivered_on, near_ended, far_ended, with_delivered};
-ghost use Rattle.artery_machine.specs.Ways.{kept_ways};
 ghost use Rattle.artery_connections.specs.Change.{with_bytes, gained, counts_of};
 
 use artery_base::{Bytes, NoMemory};

@@ -1,8 +1,7 @@
 //! All connections that were ever made.
-ghost use Rattle.std.specs.Prelude.{◌≡◌, ◌<◌, ◌≤◌, ℕ, List, [], ◌∷◌, ◌++◌, length, map, take, drop, slice_get, Option, Some, None, OnOk, OnErr, IfOk, IfSome};
+ghost use Rattle.std.specs.Prelude.{◌≡◌, ◌<◌, List, [], ◌∷◌, ◌++◌, length, map, slice_get, OnOk, OnErr, IfOk, IfSome};
 ghost use Rattle.std.specs.Option.{option_copied, option_map};
 ghost use Rattle.artery_machine.specs.Lists.{change_at};
-ghost use Rattle.artery_machine.specs.Ways.{kept_ways};
 ghost use Rattle.artery_machine.specs.Connections.{connected, place_dialed, place_inward, loads, is_loaded, far_open, near_ended, far_ended, ended_with, with_delivered};
 ghost use Rattle.artery_connections.specs.Change.{with_bytes, taken, counts_of};
 ghost use Rattle.artery_connections.specs.Next.{IsNext};
