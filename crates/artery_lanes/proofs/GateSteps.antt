@@ -1,10 +1,10 @@
 -- Each kind of step keeps the law of a gate.
-use Rattle.std.proofs.Common.{◌≡◌, ◌≢◌, ◌⊎◌, ℕ, zero, suc, ◌+◌, ◌%◌, ◌^◌, ◌<◌, ◌≤◌, max, true, false, true≢false, List, [], ◌∷◌, ◌++◌, length, set, get_or, slice_index, inl, inr, sym, refl, ap, ◌∙◌, subst, ⊎_elim, zero-le, arith}
+use Rattle.std.proofs.Common.{◌≡◌, ◌≢◌, ◌⊎◌, ℕ, zero, suc, ◌+◌, ◌%◌, ◌^◌, ◌<◌, ◌≤◌, max, true, false, true≢false, List, [], ◌∷◌, set, slice_index, inl, inr, sym, refl, ap, ◌∙◌, subst, ⊎_elim, zero-le, arith}
 use Rattle.std.proofs.Math.Nat.{mod-eq_of_lt, max-eq_left}
 use Rattle.std.proofs.lemmas.List.{set-get_or}
-use mathlib.Core.Option.{some, none}
+use mathlib.Core.Option.{some}
 use lib.ListN.{get_elem?}
-use Rattle.atomic_table.specs.Table.{State, Me, Step, step, Act, keeps, Allows, Splits, Joins}
+use Rattle.atomic_table.specs.Table.{Me, keeps, Allows, Splits, Joins}
 use Rattle.atomic_table.proofs.Lists.{at_set, at_snoc, set_again}
 use Rattle.artery_lanes.specs.declared.gate_view.SeatView.{SeatView}
 use Rattle.artery_lanes.specs.Gate.{stepped, loaded, observer, greater, joined, spent, IsBelow, FitsSeat, IsLawful}

@@ -1,4 +1,4 @@
-use Rattle.std.proofs.Common.{rules, ap, sym, ◌∙◌}
+use Rattle.std.proofs.Common.{rules}
 use Rattle.artery_lanes.proofs.LaneSteps.{forks_of}
 use Rattle.artery_lanes.proofs.lane.all_passes.Goals as goal
 

@@ -1,4 +1,3 @@
-use Rattle.std.proofs.Common.{rules}
 use Rattle.artery_lanes.proofs.LaneSteps.{merges_of, learns, first_of}
 use Rattle.artery_lanes.proofs.taker.Taker.take_in.Goals as goal
 
