@@ -1,11 +1,11 @@
 -- Words that spell themselves.
-use Rattle.std.proofs.Common.{◌≡◌, ℕ, zero, suc, ◌<◌, Bool, true, false, not, ◌&&◌, ◌||◌, eqb, List, [], ◌∷◌, ◌++◌, length, Some, Result, Ok, refl, sym, ap, ◌∙◌, arith}
-use Rattle.std.specs.Prelude.{codes, bytes_eq, slice_index, flat_map, if◌then◌else◌}
+use Rattle.std.proofs.Common.{◌≡◌, ℕ, zero, suc, ◌<◌, true, false, not, eqb, List, [], ◌∷◌, length, Some, Ok, refl, sym, ap, ◌∙◌, arith}
+use Rattle.std.specs.Prelude.{codes, bytes_eq, slice_index, flat_map}
 use Rattle.std.specs.List.{list_all}
 use Rattle.std.specs.Result.{result_ok}
 use Rattle.std.proofs.lemmas.Bool.{and_parts}
 use Rattle.std.proofs.lemmas.Bool.Decides.{nat_tests}
-use Rattle.artery_text.specs.Spelling.{AreBytes, is_visible, is_plain, is_reserved, first_piece, word_piece, word_text}
+use Rattle.artery_text.specs.Spelling.{AreBytes, is_visible, is_plain, is_reserved, word_piece, word_text}
 use Rattle.artery_text.specs.Reading.{word_of}
 use Rattle.artery_script.specs.Reading.{word_told}
 
