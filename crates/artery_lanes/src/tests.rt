@@ -4,7 +4,6 @@ ghost use Rattle.artery_lanes.specs.Gate.{owner_view};
 
 use super::*;
 use artery_base::{NoMemory, Request, Text};
-use artery_net::{Fed, Feed};
 use std::alloc::Global;
 use std::sync::Wait;
 use std::test::Fail;
@@ -180,42 +179,5 @@ fn most_passes(alloc: Global) -> Result<usize, NoMemory> {
 fn the_largest_gate_and_lane_are_made(rt: HostRuntime) -> Result<(), Fail> {
     let count = most_passes(rt.alloc());
     assert!(rt; count == Ok(16));
-    Ok(())
-}
-
-/// Whether the next take of the feed gives this.
-fn feeds<F: Feed>(feed: &mut F, want: &Fed) -> bool {
-    let given = feed.take();
-    given == *want
-}
-
-/// Whether the feed over a lane of one sender is empty, gives that the sender is done, and has ended then.
-fn is_fed<R: Wait, S: Wait + Drop>(rt: &R, own: S, alloc: Global) -> Result<bool, NoMemory> {
-    let (gate, mut owner) = Gate::new(alloc, 1)?;
-    let (lane, mut passes, taker) = Lane::new(alloc, 1, 1, gate)?;
-    let Some(mut pass) = passes.pop() else {
-        return Ok(false);
-    };
-    let mut feed = LaneFeed::new(own, taker);
-    let is_empty = feeds(&mut feed, &Fed::Empty);
-    let accepted = Offered::Accepted { k: 0, seen: None };
-    let is_accepted = answers(
-        rt,
-        &lane,
-        &mut pass,
-        &mut owner,
-        Item::Finished,
-        None,
-        &accepted,
-    );
-    let is_given = feeds(&mut feed, &Fed::Item(Offer::Finished { sender: 0 }));
-    let is_ended = feeds(&mut feed, &Fed::Ended);
-    Ok(is_empty && is_accepted && is_given && is_ended)
-}
-
-#[test]
-fn a_lane_feeds_and_ends(rt: HostRuntime) -> Result<(), Fail> {
-    let fed = is_fed(&rt, rt, rt.alloc());
-    assert!(rt; fed == Ok(true));
     Ok(())
 }
