@@ -69,8 +69,7 @@ fn merges(alloc: Global, parts: &[u8], merge: &[u8]) -> bool {
 
 /// Whether both answer parts so.
 fn both_answer(alloc: Global, parts: &[u8], written: &[u8], status: u8) -> bool {
-    audits(alloc, parts, written, status)
-        && tells(alloc, b"audit --merge", parts, written, status)
+    audits(alloc, parts, written, status) && tells(alloc, b"audit --merge", parts, written, status)
 }
 
 /// Two texts, one behind the other.
