@@ -1,0 +1,4 @@
+pub mod Places
+pub mod Coming
+pub mod Rounds
+pub mod Starting
