@@ -33,5 +33,6 @@ def most_memory(words, path):
     return most
 
 
-rounds, path, *words = sys.argv[1:]
-print(f"{min(seconds(words, path) for _ in range(int(rounds))):.3f} {most_memory(words, path)}")
+if __name__ == "__main__":
+    rounds, path, *words = sys.argv[1:]
+    print(f"{min(seconds(words, path) for _ in range(int(rounds))):.3f} {most_memory(words, path)}")

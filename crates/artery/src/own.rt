@@ -56,15 +56,18 @@ pub fn own_of(words: &[Text]) -> Option<Own>
 }
 
 /// What the program does, for `--help`.
-const USAGE: &[u8] = b"artery show < BYTES             tells the bytes of one connection in lines
-artery make < LINES             writes the bytes that stream and frame lines tell
-artery check control M < HEX    tells the control message of a payload under the manifest M
-artery check journal < JOURNAL  tells whether a journal is lawful, or its first line that is not
-artery audit < PARTS            tells whether the journals of several incarnations fit together
-artery audit --merge < PARTS    writes the lawful merge of these journals
-artery replay < SCRIPT          writes the journal of a script of a network
-artery --help                   tells this
-artery --version                tells the version
+const USAGE: &[u8] = b"artery show < BYTES               tells the bytes of one connection in lines
+artery make < LINES               writes the bytes that stream and frame lines tell
+artery check control M < HEX      tells the control message of a payload under the manifest M
+artery check journal < JOURNAL    tells whether a journal is lawful, or its first line that is not
+artery audit < PARTS              tells whether the journals of several incarnations fit together
+artery audit --merge < PARTS      writes the lawful merge of these journals
+artery replay < SCRIPT            writes the journal of a script of a network, and what its connections carried
+artery replay --bytes < SCRIPT    writes each write of its nodes too
+artery replay --moments < SCRIPT  writes each line of the journal behind its moment
+artery gen N                      plays the generated script number N, and counts the lines of its journal
+artery --help                     tells this
+artery --version                  tells the version
 ";
 
 /// The version, for `--version`.

@@ -26,7 +26,7 @@ fn is_told(alloc: Global, failing: bool) -> bool {
 
 fn is_usage(text: &[u8]) -> bool {
     text.starts_with(b"artery show < BYTES ")
-        && text.ends_with(b"artery --version                tells the version\n")
+        && text.ends_with(b"artery --version                  tells the version\n")
 }
 
 #[test]

@@ -1,10 +1,15 @@
 pub mod Sinks
 pub mod Gathering
 pub mod PlayingLemmas
-pub mod Lawful
+pub mod Fit
+pub mod Replayed
+pub mod Counted
 pub mod Stopping
+pub mod Generated
 pub mod ShownSoFar
 pub mod Faults
 pub mod Results
 pub mod FrameLines
 pub mod Merges
+pub mod Commands
+pub mod Lawful

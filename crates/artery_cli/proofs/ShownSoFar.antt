@@ -119,6 +119,10 @@ shows_long (Some text) mid left old held held' held'' c c' count size status pie
 
 -- ---- where showing stops
 
+-- what was told is within the limit
+within_limit : (fed : List ℕ) (count : ℕ) → count ≡ length fed → count ≤ most_bytes → length fed ≤ most_bytes + 1
+within_limit fed count e h = omega (arith, e, h)
+
 -- the source failed before it gave another piece
 pub shows_read : (first mid left old held : Option (List ℕ)) (c : KeptCapture) (count : ℕ) → ShownSoFar first mid old held c count → Keeps mid left → LeavesRead (Some Show) [] first left old held
 shows_read first mid left old held c count s k = record {
@@ -129,20 +133,20 @@ shows_read first mid left old held c count s k = record {
 
 -- memory ran out, or the sink failed, as the lines of a piece were told
 pub shows_stopped : (first mid left old held held' : Option (List ℕ)) (c : KeptCapture) (count : ℕ) (piece : List ℕ) (stop : Stop) → ShownSoFar first mid old held c count → Consumes mid left piece
-    → ((fed : List ℕ) → Shows c fed → StopsInPiece stop fed piece held held') → IfSome first (λ text. Leaves stop (Some Show) text old held')
-shows_stopped None mid left old held held' c count piece stop s r h = tt
-shows_stopped (Some text) mid left old held held' c count piece stops.Read s r h = tt
-shows_stopped (Some text) mid left old held held' c count piece stops.NoMemory s r h = record {
+    → count + length piece ≤ most_bytes + 1 → ((fed : List ℕ) → Shows c fed → StopsInPiece stop fed piece held held') → IfSome first (λ text. Leaves stop (Some Show) text old held')
+shows_stopped None mid left old held held' c count piece stop s r l h = tt
+shows_stopped (Some text) mid left old held held' c count piece stops.Read s r l h = tt
+shows_stopped (Some text) mid left old held held' c count piece stops.NoMemory s r l h = record {
   part = front_lines s.fed;
-  is_part = (s.fed, read_front text s.fed mid s.consumed, refl);
+  is_part = (s.fed, read_front text s.fed mid s.consumed, within_limit s.fed count s.counted s.short, refl);
   written = subst (Appends old held') (sym (append-nil (front_lines s.fed))) (appends_kept old held held' (front_lines s.fed) s.written (h s.fed s.shows));
 }
-shows_stopped (Some text) mid left old held held' c count piece stops.Write s r h =
+shows_stopped (Some text) mid left old held held' c count piece stops.Write s r l h =
     let w = h s.fed s.shows in
     let fed : List ℕ = s.fed ++ piece in
     record {
       whole = front_lines fed;
-      is_left = inr (record { part = front_lines fed; is_part = (fed, read_front text fed left (piece_read (Some text) mid left s.fed piece fed s.consumed r refl), refl); last = []; is_last = inl refl; is = sym (append-nil (front_lines fed)) });
+      is_left = inr (inl (record { part = front_lines fed; is_part = (fed, read_front text fed left (piece_read (Some text) mid left s.fed piece fed s.consumed r refl), omega (arith, s.counted, l, length-append s.fed piece), refl); last = []; is_last = inl refl; is = sym (append-nil (front_lines fed)) }));
       taken = subst (TakesFront old held') (sym w.lines) (takes_more old held held' (front_lines s.fed) w.added s.written w.taken);
     }
 
@@ -151,7 +155,7 @@ pub shows_until : (first mid old held : Option (List ℕ)) (c : KeptCapture) (co
 shows_until None mid old held c count s = tt
 shows_until (Some text) mid old held c count s = record {
   part = front_lines s.fed;
-  is_part = (s.fed, read_front text s.fed mid s.consumed, refl);
+  is_part = (s.fed, read_front text s.fed mid s.consumed, within_limit s.fed count s.counted s.short, refl);
   written = subst (Appends old held) (sym (append-nil (front_lines s.fed))) s.written;
 }
 
@@ -164,7 +168,7 @@ shows_end_stopped (Some text) mid left old held held' c count piece stops.NoMemo
     let small : length s.fed ≤ most_bytes = omega (arith, s.counted, s.short) in
     record {
       part = front_lines s.fed;
-      is_part = (s.fed, read_front text s.fed mid s.consumed, refl);
+      is_part = (s.fed, read_front text s.fed mid s.consumed, within_limit s.fed count s.counted s.short, refl);
       written = subst (Appends old held') (sym (append-nil (front_lines s.fed))) (appends_kept old held held' (front_lines s.fed) s.written (h s.fed s.shows small));
     }
 shows_end_stopped (Some text) mid left old held held' c count piece stops.Write s r e z h =
@@ -188,7 +192,7 @@ shows_long_stopped (Some text) mid left old held held' held'' c c' count size pi
     let fed : List ℕ = s.fed ++ piece in
     record {
       part = front_lines fed;
-      is_part = (fed, read_front text fed left (piece_read (Some text) mid left s.fed piece fed s.consumed r refl), refl);
+      is_part = (fed, read_front text fed left (piece_read (Some text) mid left s.fed piece fed s.consumed r refl), omega (arith, s.counted, z, l, length-append s.fed piece), refl);
       written = subst (Appends old held'') (sym w.lines ∙ sym (append-nil (front_lines fed))) (appends_kept old held' held'' (front_lines s.fed ++ w.added) (appends_more old held held' (front_lines s.fed) w.added s.written w.written) k);
     }
 shows_long_stopped (Some text) mid left old held held' held'' c c' count size piece stops.Write s r z l h k =

@@ -1,68 +1,76 @@
 -- What a command leaves where it stops, as what its parts leave.
-use Rattle.std.proofs.Common.{◌≡◌, ℕ, ◌≤◌, ◌<◌, Bool, true, false, cond, List, [], ◌++◌, length, refl, sym, ◌∙◌, ap, subst, append-nil, inl, inr, arith}
+use Rattle.std.proofs.Common.{◌≡◌, ℕ, ◌+◌, ◌≤◌, ◌<◌, Bool, true, false, cond, List, [], ◌++◌, length, refl, sym, ◌∙◌, ap, subst, append-nil, inl, inr, arith}
 use Rattle.std.specs.Prelude.{Option, None, Some, IfSome, IfOk, OnOk, Result, Ok, Err, nat_lt, codes}
 use Rattle.std.proofs.lemmas.Bool.Decides.{nat_tests}
-use Rattle.std.specs.Io.KnownBytes.{Appends, Keeps, Consumes}
+use Rattle.std.specs.Io.KnownBytes.{Appends, Consumes}
 use Rattle.artery_io.specs.Written.{TakesFront}
 use Rattle.artery_capture.specs.Shown.{front_lines}
 use Rattle.artery_cli.specs.declared.command.Command.{Command}
-use Rattle.artery_cli.specs.declared.command.Command.TheVariants.{Show, Whole}
+use Rattle.artery_cli.specs.declared.command.Command.TheVariants.{Show, Whole, Generate}
 use Rattle.artery_cli.specs.declared.command.Task.{Task}
 use Rattle.artery_cli.specs.declared.command.Task.TheVariants.{Replay, Make, CheckControl, CheckJournal, Audit}
 use Rattle.artery_cli.specs.declared.stop.Stop.{Stop}
 use Rattle.artery_cli.specs.declared.stop.Stop.TheVariants as stops
+use Rattle.artery_cli.specs.Command.{reads_input}
 use Rattle.artery_cli.specs.Limits.{most_bytes}
 use Rattle.artery_cli.specs.declared.refusal.Refusal.{Refusal}
 use Rattle.artery_cli.specs.declared.refusal.Refusal.TheVariants.{TooManyBytes}
 use Rattle.artery_cli.specs.declared.input.Gathered.TheVariants as Gathered
 use Rattle.artery_cli.specs.declared.input.Gathered.TheVariants.{TooLong}
 use Rattle.artery_cli.specs.Reading.{Gathers}
-use Rattle.artery_cli.specs.Answers.{Answer, Answers, text_answer, task_answer, answer_of, journal_of, journal_of_script, memory_fault, read_fault, stopped, stop_text, script_answer, refusal_answer}
+use Rattle.artery_cli.specs.Answers.{Answer, Answers, text_answer, task_answer, answer_of, memory_fault, read_fault, script_answer, refusal_answer}
 use Rattle.artery_base.specs.Words.{IsPrefix}
-use Rattle.artery_cli.specs.Leaving.{told_of, LeavesRead, IsPart, LeavesPart, LeavesFront, Leaves, WritingStops}
-use Rattle.artery_cli.specs.Playing.{PlayedTo, PlayStops}
-use Rattle.artery_cli.proofs.Sinks.{kept_appends, appends_nothing, appends_more, appends_kept, takes_more, whole_is_front}
-use Rattle.artery_early.specs.declared.script.ScriptFault.{ScriptFault}
-use Rattle.artery_early.specs.declared.script.ScriptLine.{ScriptLine}
-use Rattle.artery_early.specs.Script.{script_of}
-use Rattle.artery_world.specs.declared.fault.WorldFault.{WorldFault}
-use Rattle.artery_world.specs.Replay.{run}
-use Rattle.artery_world.specs.Texts.{journal_text}
+use Rattle.artery_cli.specs.Leaving.{told_of, script_in, IsScriptPart, LeavesRead, IsPart, LeavesPart, LeavesFront, Leaves, WritingStops}
+use Rattle.artery_script.specs.declared.script.ScriptFault.{ScriptFault}
+use Rattle.artery_script.specs.declared.script.ScriptLine.{ScriptLine}
+use Rattle.artery_script.specs.Scripts.{script_of}
+use Rattle.artery_replay.specs.declared.form.Form.{Form}
+use Rattle.artery_cli.proofs.Sinks.{kept_appends, appends_nothing, appends_more, takes_more}
 
 nothing_is_front : {X : Type 0} (xs : List X) → IsPrefix [] xs
 nothing_is_front xs = (xs, refl)
 
--- what a command has written behind some first bytes is a part of its answer
-pub told_is_part : (c : Option Command) (seen text : List ℕ) → IsPrefix seen text → IsPart c text (told_of c seen)
-told_is_part None seen text h = refl
-told_is_part (Some Show) seen text h = (seen, h, refl)
-told_is_part (Some (Whole Replay)) seen text h = ([], nothing_is_front (journal_of text), refl)
-told_is_part (Some (Whole Make)) seen text h = refl
-told_is_part (Some (Whole (CheckControl manifest))) seen text h = refl
-told_is_part (Some (Whole CheckJournal)) seen text h = refl
-told_is_part (Some (Whole (Audit merge))) seen text h = refl
+-- nothing is a part of what is told of a script
+no_part : (form : Form) (script : Option (List ScriptLine)) → IsScriptPart form script []
+no_part form None = refl
+no_part form (Some script) = inl refl
+
+-- what a command has written before any byte is a part of its answer
+told_is_part : (c : Option Command) (text : List ℕ) → IsPart c text (told_of c [])
+told_is_part None text = refl
+told_is_part (Some Show) text = ([], nothing_is_front text, few, refl)
+  where
+    few : 0 ≤ most_bytes + 1
+    few = omega arith
+told_is_part (Some (Whole (Replay form))) text = no_part form (script_in text)
+told_is_part (Some (Whole Make)) text = refl
+told_is_part (Some (Whole (CheckControl manifest))) text = refl
+told_is_part (Some (Whole CheckJournal)) text = refl
+told_is_part (Some (Whole (Audit merge))) text = refl
+told_is_part (Some (Generate number)) text = refl
 
 -- a task has written nothing before its answer
 nothing_of_task : (task : Task) (text : List ℕ) → IsPart (Some (Whole task)) text []
-nothing_of_task task text = told_is_part (Some (Whole task)) [] text (nothing_is_front text)
+nothing_of_task task text = told_is_part (Some (Whole task)) text
 
 -- nor has a command before any byte, since no bytes have no lines
 nothing_is_part : front_lines [] ≡ [] → (c : Option Command) (text : List ℕ) → IsPart c text []
-nothing_is_part no_lines c text = subst (IsPart c text) (nothing_told c) (told_is_part c [] text (nothing_is_front text))
+nothing_is_part no_lines c text = subst (IsPart c text) (nothing_told c) (told_is_part c text)
   where
     nothing_told : (c : Option Command) → told_of c [] ≡ []
     nothing_told None = refl
     nothing_told (Some Show) = no_lines
     nothing_told (Some (Whole task)) = refl
+    nothing_told (Some (Generate number)) = refl
 
 -- a command that writes one text alone
-writing_stops : (stop : Stop) (c : Option Command) (text : List ℕ) (old new : Option (List ℕ)) → IsPart c text [] → WritingStops stop (answer_of c text).written old new → Leaves stop c text old new
+pub writing_stops : (stop : Stop) (c : Option Command) (text : List ℕ) (old new : Option (List ℕ)) → IsPart c text [] → WritingStops stop (answer_of c text).written old new → Leaves stop c text old new
 writing_stops stops.Read c text old new none h = tt
 writing_stops stops.Write c text old new none h = record { whole = (answer_of c text).written; is_left = inl refl; taken = h }
 writing_stops stops.NoMemory c text old new none h = record { part = []; is_part = none; written = kept_appends old new h }
 
 -- memory ran out before anything was written
-leaves_nothing : (c : Option Command) (text : List ℕ) (held : Option (List ℕ)) → IsPart c text [] → Leaves stops.NoMemory c text held held
+pub leaves_nothing : (c : Option Command) (text : List ℕ) (held : Option (List ℕ)) → IsPart c text [] → Leaves stops.NoMemory c text held held
 leaves_nothing c text held none = record { part = []; is_part = none; written = appends_nothing held }
 
 pub task_leaves_nothing : (task : Task) (text : List ℕ) (held : Option (List ℕ)) → Leaves stops.NoMemory (Some (Whole task)) text held held
@@ -90,12 +98,17 @@ consumed_front : (text seen : List ℕ) (left : Option (List ℕ)) → Consumes 
 consumed_front text seen None h = absurd h
 consumed_front text seen (Some rest) h = (rest, sym h)
 
-pub cut_read : (left left' old mid new : Option (List ℕ)) (c : Option Command) → LeavesRead c [] left left' old mid → TakesFront mid new read_fault
+-- a command that the source failed reads it
+pub does_read : {X R : Type 0} (reads : Bool) → (reads ≡ false → X × (R → ⊥)) → R → reads ≡ true
+does_read true h r = refl
+does_read false h r = absurd ((h refl).1 r)
+
+pub cut_read : (left left' old mid new : Option (List ℕ)) (c : Option Command) → reads_input c ≡ true → LeavesRead c [] left left' old mid → TakesFront mid new read_fault
     → IfSome left (λ text. LeavesFront c text old new)
-cut_read None left' old mid new c h k = tt
-cut_read (Some text) left' old mid new c h k = record {
+cut_read None left' old mid new c reads h k = tt
+cut_read (Some text) left' old mid new c reads h k = record {
   whole = told_of c h.seen ++ read_fault;
-  is_left = inr (record { part = told_of c h.seen; is_part = told_is_part c h.seen text (consumed_front text h.seen left' h.consumed); last = read_fault; is_last = inr (inl refl); is = refl });
+  is_left = inr (inr (record { reads = reads; seen = h.seen; first = consumed_front text h.seen left' h.consumed; is = refl }));
   taken = subst (λ front. TakesFront old new (front ++ read_fault)) (append-nil (told_of c h.seen)) (takes_more old mid new (told_of c h.seen ++ []) read_fault h.written k);
 }
 
@@ -104,51 +117,14 @@ pub cut_part : (left old mid new : Option (List ℕ)) (c : Option Command) → I
 cut_part None old mid new c h k = tt
 cut_part (Some text) old mid new c h k = record {
   whole = h.part ++ memory_fault;
-  is_left = inr (record { part = h.part; is_part = h.is_part; last = memory_fault; is_last = inr (inr refl); is = refl });
+  is_left = inr (inl (record { part = h.part; is_part = h.is_part; last = memory_fault; is_last = inr refl; is = refl }));
   taken = subst (λ front. TakesFront old new (front ++ memory_fault)) (append-nil h.part) (takes_more old mid new (h.part ++ []) memory_fault h.written k);
 }
 
 -- ---- a script
 
-short_test : (n : ℕ) → n ≤ most_bytes → nat_lt most_bytes n ≡ false
+pub short_test : (n : ℕ) → n ≤ most_bytes → nat_lt most_bytes n ≡ false
 short_test n h = grind (arith, nat_tests, h)
-
-journal_is : (text : List ℕ) (script : List ScriptLine) → length text ≤ most_bytes → script_of text ≡ Ok script → journal_of text ≡ (run script).world.journal
-journal_is text script l e =
-    ap (λ (b : Bool). cond b [] (journal_of_script (script_of text))) (short_test (length text) l)
-    ∙ ap journal_of_script e
-
--- a script that was played in part
-pub played_part : (text : List ℕ) (script : List ScriptLine) (stop : Stop) (old new : Option (List ℕ)) → length text ≤ most_bytes → script_of text ≡ Ok script → PlayStops stop script old new → Leaves stop (Some (Whole Replay)) text old new
-played_part text script stops.Read old new l e h = tt
-played_part text script stops.NoMemory old new l e h = record {
-  part = journal_text h.lines;
-  is_part = (h.lines, subst (IsPrefix h.lines) (sym (journal_is text script l e)) h.is_front, refl);
-  written = subst (Appends old new) (sym (append-nil (journal_text h.lines))) h.written;
-}
-played_part text script stops.Write old new l e h = record {
-  whole = journal_text h.lines;
-  is_left = inr (record { part = journal_text h.lines; is_part = (h.lines, subst (IsPrefix h.lines) (sym (journal_is text script l e)) h.is_front, refl); last = []; is_last = inl refl; is = sym (append-nil (journal_text h.lines)) });
-  taken = h.taken;
-}
-
--- a script that was played, but whose last line could not be made or written
-pub played_stopped : (text : List ℕ) (script : List ScriptLine) (s : ℕ × WorldFault) (stop : Stop) (old mid new : Option (List ℕ)) → length text ≤ most_bytes → script_of text ≡ Ok script → PlayedTo script (Some s) old mid
-    → WritingStops stop (stop_text s.0 s.1) mid new → Leaves stop (Some (Whole Replay)) text old new
-played_stopped text script s stops.Read old mid new l e p h = tt
-played_stopped text script s stops.NoMemory old mid new l e p h = record {
-  part = journal_text (run script).world.journal;
-  is_part = ((run script).world.journal, subst (IsPrefix (run script).world.journal) (sym (journal_is text script l e)) (whole_is_front (run script).world.journal), refl);
-  written = subst (Appends old new) (sym (append-nil (journal_text (run script).world.journal))) (appends_kept old mid new (journal_text (run script).world.journal) p.written h);
-}
-played_stopped text script s stops.Write old mid new l e p h = record {
-  whole = journal_text (run script).world.journal ++ stop_text s.0 s.1;
-  is_left = inl (
-      ap (λ (x : Option (ℕ × WorldFault)). (stopped (journal_text (run script).world.journal) x).written) p.is_stop
-      ∙ ap (λ (r : Result (List ScriptLine) ScriptFault). (script_answer r).written) (sym e)
-      ∙ ap (λ (b : Bool). (cond b (refusal_answer TooManyBytes) (script_answer (script_of text))).written) (sym (short_test (length text) l)));
-  taken = takes_more old mid new (journal_text (run script).world.journal) (stop_text s.0 s.1) p.written h;
-}
 
 -- ---- a task
 
@@ -194,11 +170,11 @@ words_stop None c stop old new e h = tt
 words_stop (Some text) c stop old new e h = subst (λ x. Leaves stop x text old new) (sym e) (writing_stops stop None text old new refl h)
 
 -- the line that tells the first fault of a script could not be made or written
-pub refused_script : (text : List ℕ) (stop : Stop) (refusal : Refusal) (fault : ScriptFault) (old new : Option (List ℕ)) → length text ≤ most_bytes → script_of text ≡ Err fault → (script_answer (Err fault)).written ≡ (refusal_answer refusal).written
-    → WritingStops stop (refusal_answer refusal).written old new → Leaves stop (Some (Whole Replay)) text old new
-refused_script text stop refusal fault old new l e s h =
-    let same : (refusal_answer refusal).written ≡ (script_answer (script_of text)).written = sym s ∙ ap (λ (r : Result (List ScriptLine) ScriptFault). (script_answer r).written) (sym e) in
-    text_stops stop Replay text old new l (subst (λ xs. WritingStops stop xs old new) same h)
+pub refused_script : (form : Form) (text : List ℕ) (stop : Stop) (refusal : Refusal) (fault : ScriptFault) (old new : Option (List ℕ)) → length text ≤ most_bytes → script_of text ≡ Err fault → (script_answer form (Err fault)).written ≡ (refusal_answer refusal).written
+    → WritingStops stop (refusal_answer refusal).written old new → Leaves stop (Some (Whole (Replay form))) text old new
+refused_script form text stop refusal fault old new l e s h =
+    let same : (refusal_answer refusal).written ≡ (script_answer form (script_of text)).written = sym s ∙ ap (λ (r : Result (List ScriptLine) ScriptFault). (script_answer form r).written) (sym e) in
+    text_stops stop (Replay form) text old new l (subst (λ xs. WritingStops stop xs old new) same h)
 
 -- the line that tells that the words name no command was written
 pub words_answer : (left : Option (List ℕ)) (c : Option Command) (r : Result ℕ Stop) (old new : Option (List ℕ)) → c ≡ None → OnOk r (Appends old new (codes "fault words\n")) → IfOk r (λ answer. answer ≡ 2)
@@ -206,8 +182,3 @@ pub words_answer : (left : Option (List ℕ)) (c : Option Command) (r : Result �
 words_answer left c (Err stop) old new e h s = tt
 words_answer None c (Ok status) old new e h s = tt
 words_answer (Some text) c (Ok status) old new e h s = subst (λ x. Answers (answer_of x text) old new status) (sym e) (record { written = h; is_status = s })
-
--- the last line of a script that was played could not be made or written
-pub played_left : (text : List ℕ) (script : List ScriptLine) (stopped_at : Option (ℕ × WorldFault)) (s : ℕ × WorldFault) (stop : Stop) (old mid new : Option (List ℕ)) → length text ≤ most_bytes → script_of text ≡ Ok script
-    → PlayedTo script stopped_at old mid → stopped_at ≡ Some s → WritingStops stop (stop_text s.0 s.1) mid new → Leaves stop (Some (Whole Replay)) text old new
-played_left text script stopped_at s stop old mid new l e p is h = played_stopped text script s stop old mid new l e (subst (λ x. PlayedTo script x old mid) is p) h

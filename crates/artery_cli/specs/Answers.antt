@@ -9,7 +9,7 @@ use Rattle.artery_making.specs.Made.{stream_made}
 use Rattle.artery_making.specs.declared.fault.MakeFault.{MakeFault}
 use Rattle.artery_making.specs.declared.fault.MakeFault.TheVariants as make_faults
 use Rattle.artery_cli.specs.declared.command.Command.{Command}
-use Rattle.artery_cli.specs.declared.command.Command.TheVariants.{Show, Whole}
+use Rattle.artery_cli.specs.declared.command.Command.TheVariants.{Show, Whole, Generate}
 use Rattle.artery_cli.specs.declared.command.Task.{Task}
 use Rattle.artery_cli.specs.declared.command.Task.TheVariants.{Replay, Make, CheckControl, CheckJournal, Audit}
 use Rattle.artery_cli.specs.Limits.{most_bytes}
@@ -39,20 +39,19 @@ use Rattle.artery_audit.specs.Outcome.{StuckAt, outcome}
 use Rattle.artery_parts_reading.specs.declared.fault.PartsFault.{PartsFault}
 use Rattle.artery_parts_reading.specs.declared.fault.PartsFault.TheVariants as parts_faults
 use Rattle.artery_parts_reading.specs.Parts.{parts_of}
-use Rattle.artery_early.specs.declared.script.ScriptFault.{ScriptFault}
-use Rattle.artery_early.specs.declared.script.ScriptFault.TheVariants as script_faults
-use Rattle.artery_early.specs.declared.script.ScriptLine.{ScriptLine}
-use Rattle.artery_early.specs.Script.{script_of}
-use Rattle.artery_world.specs.declared.fault.Why.{Why}
-use Rattle.artery_world.specs.declared.fault.Why.TheVariants.{UsedUid, AddressLive, NotLive, OwnAddress}
-use Rattle.artery_world.specs.declared.fault.WorldLimit.{WorldLimit}
-use Rattle.artery_world.specs.declared.fault.WorldLimit.TheVariants.{Nodes, Kept}
-use Rattle.artery_world.specs.declared.fault.WorldFault.{WorldFault}
-use Rattle.artery_world.specs.declared.fault.WorldFault.TheVariants.{NotAllowed, Limit, NoMemory}
-use Rattle.artery_world.specs.declared.line.Line.{Line}
-use Rattle.artery_world.specs.Laws.{IsLawful}
-use Rattle.artery_world.specs.Replay.{Run, run}
-use Rattle.artery_world.specs.Texts.{journal_text}
+use Rattle.artery_script.specs.declared.script.ScriptFault.{ScriptFault}
+use Rattle.artery_script.specs.declared.script.ScriptFault.TheVariants as script_faults
+use Rattle.artery_script.specs.declared.script.ScriptLine.{ScriptLine}
+use Rattle.artery_script.specs.Scripts.{script_of}
+use Rattle.artery_generator.specs.Scripts.{script_of as generated}
+use Rattle.artery_machine.specs.declared.world.Outcome.{Outcome}
+use Rattle.artery_machine.specs.Parts.{Parts, whole}
+use Rattle.artery_machine.specs.Ways.{Ways, whole_ways}
+use Rattle.artery_machine.specs.Playing.{Run, Stop as RunStop, run}
+use Rattle.artery_replay.specs.declared.form.Form.{Form}
+use Rattle.artery_replay.specs.Texts.{stop_text, stop_status}
+use Rattle.artery_replay.specs.Replay.{run_text, run_status}
+use Rattle.artery_replay.specs.Tally.{summary_text}
 
 -- what is written, and the status
 pub record Answer : Type 0 where
@@ -91,73 +90,35 @@ refusal_answer (BadLine line) = record { written = codes "fault line " ++ decima
 
 -- ---- replay
 
--- the word for an event that is not allowed
-abbrev pub why_word : Why → List ℕ
-why_word UsedUid = codes "used-uid"
-why_word AddressLive = codes "address-live"
-why_word NotLive = codes "not-live"
-why_word OwnAddress = codes "own-address"
+-- the run of a script on a network with whole histories
+abbrev pub whole_run : List ScriptLine → Run whole whole_ways
+whole_run script = run {P = whole} {W = whole_ways} script
 
--- the word for a limit of the world
-abbrev pub limit_word : WorldLimit → List ℕ
-limit_word Nodes = codes "nodes"
-limit_word Kept = codes "kept"
-
--- the last line of a run that stopped at a line of its script
-abbrev pub stop_text : ℕ → WorldFault → List ℕ
-stop_text line (NotAllowed why) = codes "fault line " ++ decimal line ++ codes " not-allowed " ++ why_word why ++ codes "\n"
-stop_text line (Limit which) = codes "fault line " ++ decimal line ++ codes " limit " ++ limit_word which ++ codes "\n"
-stop_text line NoMemory = memory_fault
-
--- the status of such a run: 5 for an event that is not allowed, 6 at a limit
-abbrev pub stop_status : WorldFault → ℕ
-stop_status (NotAllowed why) = 5
-stop_status (Limit which) = 6
-stop_status NoMemory = 9
-
--- the journal, and where an event does not happen the fault line
-abbrev pub stopped : List ℕ → Option (ℕ × WorldFault) → Answer
-stopped journal None = record { written = journal; status = 0 }
-stopped journal (Some s) = record { written = journal ++ stop_text s.0 s.1; status = stop_status s.1 }
-
--- the answer of a run is its journal and where it stopped
-abbrev pub played : Run → Answer
-played r = stopped (journal_text r.world.journal) r.stop
+-- what is told of a run: its outcomes in this form, and then the counts of its connections, or the line at which it stopped
+abbrev pub run_answer : {P : Parts} {W : Ways} → Form → Run P W → Answer
+run_answer form r = record { written = run_text form r; status = run_status r.stop }
 
 -- a script that is read is played; the first bad line is told, and more than 1,000,000 lines
-abbrev pub script_answer : Result (List ScriptLine) ScriptFault → Answer
-script_answer (Ok script) = played (run script)
-script_answer (Err (script_faults.BadLine line)) = refusal_answer (BadLine line)
-script_answer (Err script_faults.TooManyLines) = refusal_answer TooManyLines
-script_answer (Err script_faults.NoMemory) = memory_answer
+abbrev pub script_answer : Form → Result (List ScriptLine) ScriptFault → Answer
+script_answer form (Ok script) = run_answer form (whole_run script)
+script_answer form (Err (script_faults.BadLine line)) = refusal_answer (BadLine line)
+script_answer form (Err script_faults.TooManyLines) = refusal_answer TooManyLines
+script_answer form (Err script_faults.NoMemory) = memory_answer
 
--- the journal of what a text was read as: that of the run of its script, and nothing where it is none
-abbrev pub journal_of_script : Result (List ScriptLine) ScriptFault → List Line
-journal_of_script (Ok script) = (run script).world.journal
-journal_of_script (Err fault) = []
+-- ---- gen
 
--- the journal that `replay` writes of a text
-abbrev pub journal_of : List ℕ → List Line
-journal_of text = if nat_lt most_bytes (length text) then [] else journal_of_script (script_of text)
+-- the summary of a journal that a run told to its end, or else the line at which it stopped alone
+abbrev pub summary_answer : List Outcome → Option RunStop → Answer
+summary_answer outcomes None = record { written = summary_text outcomes; status = 0 }
+summary_answer outcomes (Some stop) = record { written = stop_text stop.line stop.fault; status = stop_status stop.fault }
 
--- the line of the event that did not happen, where there was one
-abbrev pub stop_line : Option (ℕ × WorldFault) → List ℕ
-stop_line None = []
-stop_line (Some s) = stop_text s.0 s.1
+-- the summary of a run
+abbrev pub summed : {P : Parts} {W : Ways} → Run P W → Answer
+summed r = summary_answer r.world.outcomes r.stop
 
--- what stands behind the journal of what a text was read as: the line of the event at which its run stopped, or the fault of the text
-abbrev pub script_fault_line : Result (List ScriptLine) ScriptFault → List ℕ
-script_fault_line (Ok script) = stop_line (run script).stop
-script_fault_line (Err fault) = (script_answer (Err fault)).written
-
--- what `replay` writes behind the journal: nothing, or one fault line
-abbrev pub fault_line : List ℕ → List ℕ
-fault_line text = if nat_lt most_bytes (length text) then codes "fault limit bytes\n" else script_fault_line (script_of text)
-
--- what was written is the journal of the text's script and at most one fault line behind it, and this journal is lawful
-pub record WritesLawfully (text : List ℕ) (old new : Option (List ℕ)) : Type 0 where
-  pub written : Appends old new (journal_text (journal_of text) ++ fault_line text)
-  pub lawful : IsLawful (journal_of text)
+-- the script with this number is played
+unfoldable pub generated_answer : ℕ → Answer
+generated_answer number = summed (whole_run (generated number))
 
 -- ---- make
 
@@ -277,7 +238,7 @@ show_answer bytes = if nat_lt most_bytes (length bytes) then long_answer bytes e
 
 -- the answer of a task to an input within the limit
 abbrev pub text_answer : Task → List ℕ → Answer
-text_answer Replay text = script_answer (script_of text)
+text_answer (Replay form) text = script_answer form (script_of text)
 text_answer Make text = made_answer (stream_made text)
 text_answer (CheckControl manifest) text = check_answer manifest (payload_of text)
 text_answer CheckJournal text = journal_answer (journal_told text)
@@ -292,6 +253,7 @@ abbrev pub answer_of : Option Command → List ℕ → Answer
 answer_of None text = record { written = codes "fault words\n"; status = 2 }
 answer_of (Some Show) text = show_answer text
 answer_of (Some (Whole task)) text = task_answer task text
+answer_of (Some (Generate number)) text = generated_answer number
 
 -- the answer to words and an input
 abbrev pub answer : List (List ℕ) → List ℕ → Answer

@@ -8,3 +8,4 @@ pub mod Reading
 pub mod Playing
 pub mod Showing
 pub mod Lines
+pub mod Lawful

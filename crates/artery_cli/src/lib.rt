@@ -9,7 +9,9 @@
 mod auditing;
 mod checking;
 mod command;
+mod copies;
 mod fault_text;
+mod generating;
 mod input;
 mod judging;
 mod laws;
@@ -33,5 +35,7 @@ pub use top::run;
 mod audit_tests;
 #[cfg(test)]
 mod journal_tests;
+#[cfg(test)]
+mod replay_tests;
 #[cfg(test)]
 mod tests;

@@ -31,7 +31,7 @@ fn answer_text<K: Sink>(alloc: Global, task: &Task, text: &[u8], output: &mut K)
     ensures write { IsErrOf result stops.Write → Rose (K.faults output.old) (K.faults output.new) }
 {
     match task {
-        Task::Replay => replay_text(alloc, text, output),
+        Task::Replay { form } => replay_text(alloc, *form, text, output),
         Task::Make => make_text(alloc, text, output),
         Task::CheckControl { manifest } => check_text(alloc, manifest.as_slice(), text, output),
         Task::CheckJournal => judge_text(alloc, text, output),

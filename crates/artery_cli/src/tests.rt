@@ -115,10 +115,10 @@ pub const THREE_JOURNAL: &[u8] = b"akka://A@h1:1#1 started
 akka://B@h2:1#2 started
 akka://C@h3:1#3 started
 akka://A@h1:1#1 learnt akka://B@h2:1#2
-akka://B@h2:1#2 learnt akka://A@h1:1#1
 akka://B@h2:1#2 learnt akka://C@h3:1#3
-akka://C@h3:1#3 learnt akka://B@h2:1#2
 akka://C@h3:1#3 learnt akka://A@h1:1#1
+akka://B@h2:1#2 learnt akka://A@h1:1#1
+akka://C@h3:1#3 learnt akka://B@h2:1#2
 akka://A@h1:1#1 learnt akka://C@h3:1#3
 akka://A@h1:1#1 sent akka://B@h2:1#2 1 1 - 01
 akka://B@h2:1#2 sent akka://C@h3:1#3 1 1 - 02
@@ -132,56 +132,27 @@ akka://B@h2:1#2 took akka://A@h1:1#1 2 1 - 04
 akka://C@h3:1#3 took akka://A@h1:1#1 1 1 m -
 ";
 
-// Each worked example is a function with the example's name. Of those of `replay` the journal is compared: the
-// network of today tells no bytes.
+/// The bytes on their connections.
+const THREE_COUNTS: &[u8] = b"bytes 1 1 346 346
+bytes 2 1 279 279
+bytes 3 1 341 279
+bytes 2 2 336 336
+bytes 3 2 274 274
+bytes 1 2 343 343
+bytes 1 3 84 84
+bytes 2 3 84 84
+bytes 3 3 84 84
+bytes 2 4 84 84
+bytes 3 4 84 84
+bytes 1 4 84 84
+";
 
-fn an_empty_script(alloc: Global) -> bool {
-    answers(alloc, b"", b"", 0)
-}
-
-fn a_bad_line(alloc: Global) -> bool {
-    let script = b"start akka://A@h1:25520 1
-start akka://B@h2:25520 2
-jump
-at 1 pair akka://B@h2:25520
-pass 9
-";
-    answers(alloc, script, b"fault line 3\n", 2)
-}
-
-fn a_message_is_sent_and_taken(alloc: Global) -> bool {
-    let script = b"start akka://A@h1:25520 1
-start akka://B@h2:25520 2
-at 1 pair akka://B@h2:25520
-pass 9
-at 1 send akka://B@h2:25520 5 x 0102
-pass 9
-";
-    let journal = b"akka://A@h1:25520#1 started
-akka://B@h2:25520#2 started
-akka://A@h1:25520#1 learnt akka://B@h2:25520#2
-akka://B@h2:25520#2 learnt akka://A@h1:25520#1
-akka://A@h1:25520#1 sent akka://B@h2:25520#2 1 5 x 0102
-akka://B@h2:25520#2 took akka://A@h1:25520#1 1 5 x 0102
-";
-    answers(alloc, script, journal, 0)
-}
-
-/// The asker learns first and tells what waited as sent; then the other one learns, and takes it.
-fn a_message_waits_for_the_first_meeting(alloc: Global) -> bool {
-    let script = b"start akka://A@h1:25520 1
-start akka://B@h2:25520 2
-at 1 send akka://B@h2:25520 5 x 0102
-pass 9
-";
-    let journal = b"akka://A@h1:25520#1 started
-akka://B@h2:25520#2 started
-akka://A@h1:25520#1 learnt akka://B@h2:25520#2
-akka://A@h1:25520#1 sent akka://B@h2:25520#2 1 5 x 0102
-akka://B@h2:25520#2 learnt akka://A@h1:25520#1
-akka://B@h2:25520#2 took akka://A@h1:25520#1 1 5 x 0102
-";
-    answers(alloc, script, journal, 0)
+/// Whether a call answers a script by a journal and counts.
+fn answers_both(alloc: Global, script: &[u8], journal: &[u8], counts: &[u8]) -> bool {
+    let Ok(mut written) = Bytes::from_slice(alloc, journal) else {
+        return false;
+    };
+    written.extend_from_slice(counts).is_ok() && answers(alloc, script, written.as_slice(), 0)
 }
 
 /// Two words around a number, which stands behind the second again, and an end.
@@ -211,14 +182,62 @@ fn sixty_five_nodes(alloc: Global) -> Result<bool, NoMemory> {
     Ok(answers(alloc, script.as_slice(), written.as_slice(), 6))
 }
 
+fn sixty_five_peers(alloc: Global) -> Result<bool, NoMemory> {
+    let mut script = Bytes::from_slice(alloc, b"start akka://A@h:1 1\n")?;
+    for number in 1..66u64 {
+        script.extend_from_slice(b"at 1 pair akka://P@h")?;
+        print_number(number, &mut script)?;
+        script.extend_from_slice(b":1\n")?;
+    }
+    let written = b"akka://A@h:1#1 started\nakka://A@h:1#1 refused peers\n";
+    Ok(answers(alloc, script.as_slice(), written, 0))
+}
+
+/// Calls that read nothing, what they write and their status.
+const GENERATED: [(&[u8], &[u8], u8); 8] = [
+    (
+        b"gen 1",
+        b"lines 11\nsent 1\ntook 1\ntold 0\ngot 0\nclosed 0\nterminated 0\n",
+        0,
+    ),
+    (
+        b"gen 2",
+        b"lines 14\nsent 2\ntook 2\ntold 0\ngot 0\nclosed 0\nterminated 0\n",
+        0,
+    ),
+    (
+        b"gen 10000",
+        b"lines 13835\nsent 2632\ntook 1834\ntold 1347\ngot 1039\nclosed 368\nterminated 332\n",
+        0,
+    ),
+    (b"gen 0", b"fault words\n", 2),
+    (b"gen 01", b"fault words\n", 2),
+    (b"gen 10001", b"fault words\n", 2),
+    (b"gen", b"fault words\n", 2),
+    (b"gen x", b"fault words\n", 2),
+];
+
+#[test]
+fn scripts_are_generated(rt: HostRuntime) -> Result<(), Fail> {
+    let alloc = rt.alloc();
+    for (call, written, status) in GENERATED {
+        assert!(rt; tells(alloc, call, b"", written, status));
+    }
+    assert!(rt; leaves(alloc, b"gen 1", b"", &[1], &[1], b"", 4));
+    Ok(())
+}
+
+/// Whether an option of `replay` gives this for one node that starts.
+fn replays_with(alloc: Global, call: &[u8], written: &[u8]) -> bool {
+    tells(alloc, call, b"start akka://A@h:1 1\n", written, 0)
+}
+
 #[test]
 fn scripts_are_answered(rt: HostRuntime) -> Result<(), Fail> {
     let alloc = rt.alloc();
-    assert!(rt; an_empty_script(alloc));
-    assert!(rt; a_bad_line(alloc));
-    assert!(rt; a_message_is_sent_and_taken(alloc));
-    assert!(rt; a_message_waits_for_the_first_meeting(alloc));
+    assert!(rt; answers(alloc, b"", b"", 0));
     assert!(rt; sixty_five_nodes(alloc)?);
+    assert!(rt; sixty_five_peers(alloc)?);
     assert!(rt;
         answers(
             alloc,
@@ -251,7 +270,16 @@ fn scripts_are_answered(rt: HostRuntime) -> Result<(), Fail> {
             5
         )
     );
-    assert!(rt; answers(alloc, THREE, THREE_JOURNAL, 0));
+    assert!(rt; replays_with(alloc, b"replay --bytes", b"akka://A@h:1#1 started\n"));
+    assert!(rt;
+        replays_with(
+            alloc,
+            b"replay --moments",
+            b"journal 2\n0 akka://A@h:1#1 started\n"
+        )
+    );
+    assert!(rt; tells(alloc, b"replay --bytes --moments", b"", b"fault words\n", 2));
+    assert!(rt; answers_both(alloc, THREE, THREE_JOURNAL, THREE_COUNTS));
     Ok(())
 }
 
@@ -619,7 +647,6 @@ fn limits_are_told(rt: HostRuntime) -> Result<(), Fail> {
     let alloc = rt.alloc();
     let start = b"start akka://A@h:1 1\n".as_slice();
     let started = b"akka://A@h:1#1 started\n".as_slice();
-    let send = b"at 1 send akka://B@h:1 5 x -\n".as_slice();
     assert!(rt; answers_copies(alloc, b"replay", start, b"\n", 999_999, started, 0)?);
     assert!(rt;
         answers_copies(
@@ -640,18 +667,6 @@ fn limits_are_told(rt: HostRuntime) -> Result<(), Fail> {
             b"0123456789abcdef0123456789abcdef",
             2_097_152,
             b"fault limit bytes\n",
-            6
-        )?
-    );
-    assert!(rt; answers_copies(alloc, b"replay", start, send, 20_000, started, 0)?);
-    assert!(rt;
-        answers_copies(
-            alloc,
-            b"replay",
-            start,
-            send,
-            20_001,
-            b"akka://A@h:1#1 started\nfault line 20002 limit kept\n",
             6
         )?
     );

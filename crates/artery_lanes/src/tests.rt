@@ -1,9 +1,10 @@
 //! One sender at a small gate and lane, and the largest ones.
-ghost use Rattle.std.specs.Prelude.{◌≡◌, ◌+◌, ◌<◌, ◌≤◌, [], length, false, IfSome};
+ghost use Rattle.std.specs.Prelude.{◌≡◌, ◌+◌, ◌<◌, ◌≤◌, [], length, false, IfSome, IfOk};
 ghost use Rattle.artery_lanes.specs.Gate.{owner_view};
 
 use super::*;
 use artery_base::{NoMemory, Request, Text};
+use artery_net::{Fed, Feed};
 use std::alloc::Global;
 use std::sync::Wait;
 use std::test::Fail;
@@ -179,5 +180,58 @@ fn most_passes(alloc: Global) -> Result<usize, NoMemory> {
 fn the_largest_gate_and_lane_are_made(rt: HostRuntime) -> Result<(), Fail> {
     let count = most_passes(rt.alloc());
     assert!(rt; count == Ok(16));
+    Ok(())
+}
+
+/// A lane of one place and one sender, with the sender's pass, the seat of the gate's owner, and the taker.
+fn one_sender(alloc: Global) -> Result<Option<(Lane, SenderPass, Seat, Taker)>, NoMemory>
+    ensures { IfOk result (λ made. IfSome made (λ r. (r.1.queue ≡ r.0.queue) × (r.1.accepted ≡ []) × (r.2.gate ≡ r.0.gate))) }
+{
+    let (gate, owner) = Gate::new(alloc, 1)?;
+    let (lane, mut passes, taker) = Lane::new(alloc, 1, 1, gate)?;
+    let Some(pass) = passes.pop() else {
+        return Ok(None);
+    };
+    Ok(Some((lane, pass, owner, taker)))
+}
+
+/// Whether it is accepted that the sender is done, its only item.
+fn is_done<R: Wait>(rt: &R, lane: &Lane, pass: &mut SenderPass, owner: &mut Seat) -> bool
+    requires pass { (pass.old.queue ≡ lane.now.queue) × (pass.old.accepted ≡ []) }
+    requires owner { owner.old.gate ≡ lane.now.gate }
+{
+    let accepted = Offered::Accepted { k: 0, seen: None };
+    answers(rt, lane, pass, owner, Item::Finished, None, &accepted)
+}
+
+/// Whether the next take of the feed gives this.
+fn feeds<F: Feed>(feed: &mut F, want: &Fed) -> bool {
+    let given = feed.take();
+    given == *want
+}
+
+/// Whether the feed gives that the sender is done, and has ended then.
+fn feeds_the_end<F: Feed>(feed: &mut F) -> bool {
+    let is_given = feeds(feed, &Fed::Item(Offer::Finished { sender: 0 }));
+    let is_ended = feeds(feed, &Fed::Ended);
+    is_given && is_ended
+}
+
+/// Whether the feed over a lane of one sender is empty, gives that the sender is done, and has ended then.
+fn is_fed<R: Wait, S: Wait + Drop>(rt: &R, own: S, alloc: Global) -> Result<bool, NoMemory> {
+    let Some((lane, mut pass, mut owner, taker)) = one_sender(alloc)? else {
+        return Ok(false);
+    };
+    let mut feed = LaneFeed::new(own, taker);
+    let is_empty = feeds(&mut feed, &Fed::Empty);
+    let is_done = is_done(rt, &lane, &mut pass, &mut owner);
+    let is_ended = feeds_the_end(&mut feed);
+    Ok(is_empty && is_done && is_ended)
+}
+
+#[test]
+fn a_lane_feeds_and_ends(rt: HostRuntime) -> Result<(), Fail> {
+    let fed = is_fed(&rt, rt, rt.alloc());
+    assert!(rt; fed == Ok(true));
     Ok(())
 }

@@ -1,31 +1,25 @@
-//! A whole network that a script drives, as values: the incarnations that live, the links between them and the
-//! journal of what they did.
+//! A network of nodes that a script drives, over bytes.
 //!
-//! `World::apply` makes one event of a script happen and adds its lines to the journal, or refuses it by name.
-//! `prefix_law` and `journal_goes_on` are the laws of every script: at each line, what one incarnation took from
-//! another is a prefix of what was sent to it before.
+//! A [`World`] takes one event after the other: incarnations start and stop, are asked something, are told the time; dials are answered or
+//! fail; bytes arrive; connections end at either side; rounds of delivery pass. At each it tells what came of it, lines of the journal and
+//! writes, in order, or why the event did not happen, or not to its end.
 //!
-//! In this world links carry values, never bytes, and none is cut; nobody stops, and nothing is watched.
+//! What it does is the network's rule of `artery_machine` at that event, over what nodes keep and over the bytes to come of each connection.
 #![tactic(auto)]
 
-mod fault;
-mod laws;
-mod line;
-mod lines;
-mod link;
+mod acting;
+mod events;
+mod giving;
+mod live;
 mod network;
-mod node;
-mod parcel;
-mod peer;
+mod outcomes;
+mod passing;
 mod pending;
-mod printing;
+mod refusing;
 mod world;
 
-pub use fault::{Why, WorldFault, WorldLimit};
-pub use laws::{journal_goes_on, prefix_law};
-pub use line::Line;
-pub use lines::Lines;
-pub use parcel::Parcel;
-pub use pending::Pending;
-pub use printing::{print_line, print_lines};
+pub use outcomes::Outcomes;
 pub use world::World;
+
+#[cfg(test)]
+mod tests;

@@ -1,102 +1,110 @@
-ghost use Rattle.std.specs.Prelude.{◌≡◌, [], None, Some, Result, Ok, Err, IfSome, OnErr};
-ghost use Rattle.artery_world.specs.Lookup.{Grows};
-ghost use Rattle.artery_world.specs.World.{Running, seen, nothing};
-ghost use Rattle.artery_world.specs.Step.{step, Happens, KeepsNet, end_of};
+//! A network, event by event.
+ghost use Rattle.std.specs.Prelude.{◌≡◌, [], ◌++◌, None, OnOk, OnErr, slice_get};
+ghost use Rattle.std.specs.Option.{option_map};
+ghost use Rattle.artery_machine.specs.World.{nothing, happens, refusal};
+ghost use Rattle.artery_connections.specs.Change.{counts_of};
+ghost use Rattle.artery_world.specs.Running.{Comes, IsFitEvent, running};
 
-use crate::fault::WorldFault;
-use crate::lines::Lines;
 use crate::network::Network;
-use artery_early::Event;
+use crate::outcomes::Outcomes;
+use artery_base::NoMemory;
+use artery_connections::Counts;
+use artery_machine::WorldFault;
+use artery_script::Event;
 use std::alloc::Global;
 use std::marker::Model;
 
-/// The most incarnations that live at a time.
-pub const MOST_NODES: usize = 64;
-
-/// A network of incarnations that exchange system messages as values.
+/// A network over bytes. It begins with nothing in it and takes one event after the other.
+///
+/// At want of memory, and at a limit, it has ended: each later event is answered the same.
 #[derive(Drop)]
 pub struct World {
     network: Network,
-    ended: Option<WorldFault>,
+    stopped: bool,
 }
 
 impl Model for World {
-    ghost use Rattle.artery_world.specs.World.{Running};
+    ghost use Rattle.std.specs.Prelude.{◌≡◌, []};
+    ghost use Rattle.artery_world.specs.Running.{Running};
 
     ghost Value = { Running };
 
-    ghost view = { λ w. record { net = w.network; ended = w.ended } };
+    ghost view = { λ w. record { world = w.network; stopped = w.stopped } };
+
+    ghost invariant = { λ w. w.network.outcomes ≡ [] };
+}
+
+/// An allowed event happens, and what came of it goes behind these outcomes. Without memory they stay as they are.
+fn happens_and_tells(
+    network: &mut Network,
+    event: Event,
+    out: &mut Outcomes,
+) -> Result<(), NoMemory>
+    requires fit { IsFitEvent event }
+    requires allowed { refusal event network.old ≡ None }
+    ensures network { OnOk result (network.new ≡ record (happens event network.old) { outcomes = [] }) }
+    ensures told { OnOk result (out.new ≡ out.old ++ (happens event network.old).outcomes) }
+    ensures err { OnErr result (out.new ≡ out.old) }
+{
+    network.happens(event)?;
+    out.append(&mut network.outcomes)?;
+    Ok(())
 }
 
 impl World {
-    /// A world in which nothing has happened. Takes no memory.
+    /// Nothing has happened. Takes no memory.
     pub fn new(alloc: Global) -> World
-        ensures start { seen result.net [] ≡ nothing }
-        ensures runs { result.ended ≡ None }
+        ensures { result ≡ running nothing }
     {
         World {
             network: Network::new(alloc),
-            ended: None,
+            stopped: false,
         }
     }
 
-    /// Lets an event happen, and adds the lines that it writes to `out`.
+    /// One event comes to the network. What comes of it goes behind these outcomes, in order.
     ///
-    /// `NotAllowed` comes where the event is not allowed here, and changes nothing. `Limit` comes
-    /// where it would pass 64 live incarnations or 20,000 messages kept for a peer. Without memory
-    /// it is `NoMemory`. At each fault `out` is as before. After `Limit` or `NoMemory` the world
-    /// has ended, and each later call answers the same.
-    #[tactic(auto, using(crate::proofs::Ending::cut_off))]
-    pub fn apply(&mut self, alloc: Global, event: Event, out: &mut Lines) -> Result<(), WorldFault>
-        ensures happens { self.old.ended ≡ None → Happens result (seen self.new.net out.new) (step event (seen self.old.net out.old)) }
-        ensures same { self.old.ended ≡ None → KeepsNet result self.old.net self.new.net }
-        ensures ends { self.old.ended ≡ None → self.new.ended ≡ end_of result }
-        ensures ended { IfSome self.old.ended (λ fault. (result ≡ Err fault) × (self.new ≡ self.old)) }
-        ensures lines { OnErr result (out.new ≡ out.old) }
+    /// The event has to be fit: a moment is below 2^62 milliseconds, as each that a script tells is.
+    ///
+    /// `NotAllowed` names the first condition of the event that fails; nothing changes and nothing is told. `Limit` comes where the event would
+    /// pass a limit: what came of it before is told, and the network has ended. `NoMemory` comes where memory runs out: nothing is told, and
+    /// the network has ended.
+    pub fn apply(&mut self, event: Event, out: &mut Outcomes) -> Result<(), WorldFault>
+        requires { IsFitEvent event }
+        ensures { Comes result event self.old self.new out.old out.new }
     {
-        if let Some(fault) = self.ended {
-            return Err(fault);
+        if self.stopped {
+            return Err(WorldFault::NoMemory);
         }
-        let before = out.len();
-        match happen(&mut self.network, alloc, event, out) {
-            Ok(()) => Ok(()),
-            Err(fault) => {
-                out.truncate(before);
-                self.ended = ending(fault);
-                Err(fault)
+        if let Some(which) = self.network.ended {
+            return Err(WorldFault::Limit { which });
+        }
+        match self.network.refusal(&event) {
+            Ok(None) => {}
+            Ok(Some(why)) => return Err(WorldFault::NotAllowed { why }),
+            Err(NoMemory) => {
+                self.stopped = true;
+                return Err(WorldFault::NoMemory);
             }
         }
-    }
-}
-
-/// What a fault leaves of a world.
-fn ending(fault: WorldFault) -> Option<WorldFault>
-    ensures { result ≡ end_of {X = Unit {0}} (Err fault) }
-{
-    match fault {
-        WorldFault::NotAllowed { .. } => None,
-        WorldFault::Limit { which } => Some(WorldFault::Limit { which }),
-        WorldFault::NoMemory => Some(WorldFault::NoMemory),
-    }
-}
-
-/// Lets an event happen in a network that runs.
-fn happen(
-    network: &mut Network,
-    alloc: Global,
-    event: Event,
-    out: &mut Lines,
-) -> Result<(), WorldFault>
-    ensures happens { Happens result (seen network.new out.new) (step event (seen network.old out.old)) }
-    ensures same { KeepsNet result network.old network.new }
-    ensures grows { Grows out.old out.new }
-{
-    match event {
-        Event::Start { unique } => network.start(alloc, unique, out),
-        Event::At { uid, request } => network.request(alloc, uid, request, out),
-        Event::Pass { rounds } => {
-            network.pass_times(alloc, rounds, out)?;
-            Ok(())
+        match happens_and_tells(&mut self.network, event, out) {
+            Ok(()) => {}
+            Err(NoMemory) => {
+                self.network.outcomes.clear();
+                self.stopped = true;
+                return Err(WorldFault::NoMemory);
+            }
         }
+        match self.network.ended {
+            Some(which) => Err(WorldFault::Limit { which }),
+            None => Ok(()),
+        }
+    }
+
+    /// The connection at a place in the order made, from 0: who dialed it, with which number, and how many bytes were written and delivered.
+    pub fn counts(&self, place: usize) -> Option<Counts>
+        ensures { result ≡ option_map counts_of (slice_get self.now.world.connections place) }
+    {
+        self.network.connections.counts(place)
     }
 }

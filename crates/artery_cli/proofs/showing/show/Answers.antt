@@ -33,7 +33,10 @@ pub returns-in_err-show_piece-clause-left : goal.returns-in_err-show_piece-claus
 returns-in_err-show_piece-clause-left g c =
     let same : take c.in-Ok.count c.read.new.into ≡ c.split_at.result.0.now = search rules in
     let consumed : Consumes (g.S.Source.left c.loop.input) (g.S.Source.left c.read.new.self) c.split_at.result.0.now = subst (Consumes (g.S.Source.left c.loop.input) (g.S.Source.left c.read.new.self)) same c.in-Ok.ensures.bytes.0 in
-    stops_with c.from_residual-in_err-show_piece.result c.in_err-show_piece.field-0.0 _ c.from_residual-in_err-show_piece.ensures (shows_stopped (g.S.Source.left c.args.input.now) (g.S.Source.left c.loop.input) (g.S.Source.left c.read.new.self) (g.K.Sink.held c.args.output.now) (g.K.Sink.held c.loop.output) _ c.loop.capture c.loop.seen c.split_at.result.0.now c.in_err-show_piece.field-0.0 c.loop.invariant.so_far consumed c.in_err-show_piece.ensures.left)
+    let long : c.in-Ok.count ≡ length c.split_at.result.0.now = search rules in
+    let counted : c.loop.seen + c.in-Ok.count ≤ most_bytes + 1 = search rules in
+    let within : c.loop.seen + length c.split_at.result.0.now ≤ most_bytes + 1 = subst (λ (n : ℕ). c.loop.seen + n ≤ most_bytes + 1) long counted in
+    stops_with c.from_residual-in_err-show_piece.result c.in_err-show_piece.field-0.0 _ c.from_residual-in_err-show_piece.ensures (shows_stopped (g.S.Source.left c.args.input.now) (g.S.Source.left c.loop.input) (g.S.Source.left c.read.new.self) (g.K.Sink.held c.args.output.now) (g.K.Sink.held c.loop.output) _ c.loop.capture c.loop.seen c.split_at.result.0.now c.in_err-show_piece.field-0.0 c.loop.invariant.so_far consumed within c.in_err-show_piece.ensures.left)
 
 pub returns-in_err-show_piece-clause-bounded : goal.returns-in_err-show_piece-clause-bounded
 returns-in_err-show_piece-clause-bounded g c =

@@ -1,0 +1,11 @@
+pub mod Journals
+pub mod Quiet
+pub mod Names
+pub mod Watches
+pub mod Taking
+pub mod Facts
+pub mod Keeping
+pub mod Stories
+pub mod Own
+pub mod Ending
+pub mod Networks

@@ -1,0 +1,16 @@
+pub mod Lists
+pub mod Grow
+pub mod Facts
+pub mod Deeds
+pub mod Rules
+pub mod Sending
+pub mod Handshaking
+pub mod Reading
+pub mod Hearing
+pub mod Inward
+pub mod Ticking
+pub mod Streams
+pub mod Feeding
+pub mod Networks
+pub mod Flights
+pub mod Meetings

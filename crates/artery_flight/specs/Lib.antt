@@ -1,0 +1,3 @@
+pub mod Answers
+pub mod Flight
+pub mod Names

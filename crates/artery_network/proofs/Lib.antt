@@ -1,4 +1,0 @@
-pub mod Places
-pub mod Coming
-pub mod Rounds
-pub mod Starting

@@ -1,0 +1,14 @@
+use Rattle.std.proofs.Common.{◌≡◌, ◌-◌, ◌≤◌, length}
+use Rattle.artery_machine.specs.World.{each_place, by_connection, where_it, cuts}
+use Rattle.artery_world.specs.Acting.{is_near_of}
+use Rattle.artery_world.proofs.network.Network.cuts_all.Given as goal
+
+abbrev pub invariant-loop-self : goal.invariant-loop-self
+invariant-loop-self l = record {
+  rest : each_place l.from (l.made - l.from) (by_connection (where_it (is_near_of l.fn.uid) cuts)) l.self ≡ each_place 0 l.made (by_connection (where_it (is_near_of l.fn.uid) cuts)) l.fn.self;
+  within : l.from ≤ l.made;
+  made : l.made ≡ length l.fn.self.connections;
+}
+
+abbrev pub decreases-loop-self : goal.decreases-loop-self
+decreases-loop-self l = l.made - l.from
