@@ -10,19 +10,24 @@ use crate::memory::NoMemory;
 use std::alloc::Global;
 use std::hash::{Hash, Hasher};
 use std::marker::Model;
+use std::sync::ArcSlice;
 
-/// ASCII text on the heap; a contract sees it as the list of its bytes.
+/// ASCII text on the heap, which its copies share; a contract sees it as the list of its bytes.
 #[derive(Clone, Debug, Drop)]
 pub struct Text {
-    items: Vec<u8>,
+    items: ArcSlice<u8>,
 }
 
 impl Model for Text {
+    ghost use Rattle.std.specs.Prelude.{ℕ, List};
+    ghost use Rattle.std.specs.Arc.{arc_slice_items};
+    ghost use Rattle.std.specs.Str.{IsAscii};
+
     ghost Value = { List ℕ };
 
-    ghost view = { λ t. t.items.items };
+    ghost view = { λ t. arc_slice_items t.items };
 
-    ghost invariant = { λ t. IsAscii t.items.items };
+    ghost invariant = { λ t. IsAscii (arc_slice_items t.items) };
 }
 
 impl Text {
@@ -32,7 +37,7 @@ impl Text {
         ensures { IfOk result (λ t. t ≡ slice.now) }
     {
         Ok(Text {
-            items: Vec::from_slice(alloc, slice)?,
+            items: ArcSlice::from_slice(alloc, slice)?,
         })
     }
 
@@ -47,7 +52,7 @@ impl Text {
     pub fn is_empty(&self) -> bool
         ensures { result ≡ (length self.now == 0) }
     {
-        self.items.is_empty()
+        self.items.as_slice().is_empty()
     }
 
     /// The bytes, borrowed.
@@ -65,7 +70,7 @@ impl PartialEq for Text {
     ghost laws = { Prim.search (comparing, rules) };
 
     fn eq(&self, other: &Text) -> bool {
-        self.items == other.items
+        self.items.as_slice() == other.items.as_slice()
     }
 }
 
@@ -80,6 +85,6 @@ impl Hash for Text {
 
     fn hash<H: Hasher>(&self, state: &mut H) {
         state.write_usize(self.items.len());
-        state.write(&self.items);
+        state.write(self.items.as_slice());
     }
 }

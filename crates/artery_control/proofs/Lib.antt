@@ -8,6 +8,7 @@ pub mod Read
 pub mod Gathers
 pub mod Ascii
 pub mod Writes
+pub mod Layouts
 pub mod Lengths
 pub mod Writable
 pub mod Again

@@ -4,6 +4,7 @@ pub mod Embedded
 pub mod Parts
 pub mod Message
 pub mod Payload
+pub mod Layout
 pub mod Valid
 pub mod Belonging
 pub mod Lengths

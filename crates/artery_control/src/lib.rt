@@ -5,6 +5,7 @@
 //! unpacked, neither an absent field nor an empty manifest. What was written is read again as the message.
 #![tactic(auto)]
 
+mod canonical;
 mod control;
 mod fault;
 mod fields;

@@ -1,10 +1,11 @@
-ghost use Rattle.std.specs.Prelude.{◌≡◌, IfOk};
+ghost use Rattle.std.specs.Prelude.{◌≡◌, [], ◌∷◌, IfOk};
 ghost use Rattle.std.specs.Option.{option_map};
 ghost use Rattle.artery_base.specs.Words.{Gives};
 ghost use Rattle.artery_control.specs.Valid.{IsValid};
 ghost use Rattle.artery_control.specs.Outcome.{is_memory};
 ghost use Rattle.artery_control.specs.Message.{quarantined_in, terminating_in, terminating_ack_in, request_in, answer_in, refs_table_in, refs_ack_in, manifests_table_in, manifests_ack_in, system_message_of, numbered_in, ack_in, nack_in, heartbeat_answer_in, message_in, message_of};
 
+use crate::canonical::common_message;
 use crate::control::Control;
 use crate::fault::ControlFault;
 use crate::laws::belonging_is_read;
@@ -38,11 +39,21 @@ fn message_of_manifest(
     let [letter] = manifest else {
         return Err(ControlFault::UnknownManifest);
     };
-    if *letter < b'a' || *letter > b'n' {
+    match common_message(alloc, *letter, bytes) {
+        Some(control) => Ok(control),
+        None => message_of_letter(alloc, *letter, bytes),
+    }
+}
+
+/// The control message of a letter and a payload, whatever the payload's layout.
+fn message_of_letter(alloc: Global, letter: u8, bytes: &[u8]) -> Result<Control, ControlFault>
+    ensures { Gives is_memory result (message_of (letter ∷ []) bytes.now) }
+{
+    if letter < b'a' || letter > b'n' {
         return Err(ControlFault::UnknownManifest);
     }
     check_record(Path::Message, bytes)?;
-    message(alloc, *letter, bytes)
+    message(alloc, letter, bytes)
 }
 
 /// The message of this letter; `UnknownManifest` for any other byte.
@@ -198,7 +209,7 @@ fn heartbeat_answer(bytes: &[u8]) -> Result<Control, ControlFault>
 }
 
 /// The system message of these fields: an absent manifest is empty.
-fn system_message(
+pub(crate) fn system_message(
     alloc: Global,
     serializer: u64,
     manifest: Option<&[u8]>,

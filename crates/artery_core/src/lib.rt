@@ -10,5 +10,9 @@
 mod coming;
 mod node;
 mod requests;
+#[cfg(test)]
+mod test_side;
+#[cfg(test)]
+mod tests;
 
 pub use node::Node;

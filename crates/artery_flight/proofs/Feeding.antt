@@ -7,11 +7,11 @@ use Rattle.artery_frame.specs.Stream.{reading_of, new_frames}
 use Rattle.artery_machine.specs.Parts.{came_whole}
 use Rattle.artery_machine.specs.Ways.{Wrote, bytes_on}
 use Rattle.artery_machine.specs.Connections.{is_inward, undelivered_on, with_delivered}
-use Rattle.artery_flight.proofs.Lists.{by_test, on_cond, not_both, Each, each_get, each_set, count, count_set, single_set}
+use Rattle.artery_flight.proofs.Lists.{flat_append, by_test, on_cond, not_both, Each, each_get, each_set, count, count_set, single_set}
 use Rattle.artery_flight.proofs.Facts.{Conn, Grows, Grow, inward_same, Stay, AllRead, TheOne, ConnFacts}
 use Rattle.artery_flight.proofs.Grow.{one_weaker, one_both, grow_count}
 use Rattle.artery_flight.proofs.Reading.{HasFrame, Framed}
-use Rattle.artery_flight.proofs.Streams.{take_front, flat_append, each_drop, take_more, reads}
+use Rattle.artery_flight.proofs.Streams.{take_front, each_drop, take_more, reads}
 
 -- The bytes that were delivered to an incarnation on its connection with a number, and are still to be given.
 abbrev pub Rest : Type 0

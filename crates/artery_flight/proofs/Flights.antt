@@ -22,7 +22,8 @@ use Rattle.artery_flight.proofs.Lists.{by_test, eq_self, and_both, each_get, cou
 use Rattle.artery_flight.proofs.Streams.{bytes_are}
 use Rattle.artery_flight.proofs.Facts.{Network, Conn, ConnFacts, is_far, Out, IsFresh, IsTrue}
 use Rattle.artery_flight.proofs.Feeding.{nothing_left}
-use Rattle.artery_flight.proofs.Networks.{LiveFacts, Going, Holds, run_holds}
+use Rattle.artery_flight.proofs.Networks.{LiveFacts, Going, Holds}
+use Rattle.artery_flight.proofs.Playing.{run_holds}
 
 -- the law of the readings of beginnings
 abbrev pub Fronts : Type 0

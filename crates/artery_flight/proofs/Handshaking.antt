@@ -4,7 +4,6 @@ use Rattle.std.specs.Prelude.{◌==◌, ◌||◌, ◌&&◌, not, is_some, is_non
 use Rattle.std.specs.List.{find}
 use Rattle.artery_base.specs.declared.address.Address.{Address}
 use Rattle.artery_base.specs.declared.address.UniqueAddress.{UniqueAddress}
-use Rattle.artery_base.specs.declared.message.SysMsg.{SysMsg}
 use Rattle.artery_assoc.specs.Peer.{learning}
 use Rattle.artery_assoc.specs.declared.peer.Learn.{Learn}
 use Rattle.artery_assoc.specs.declared.peer.Learn.TheVariants.{Learnt, Same, WasClosed, ClosedFull}
@@ -16,10 +15,8 @@ use Rattle.artery_handshake.specs.declared.in_conn.InState.TheVariants.{Raw, Kno
 use Rattle.artery_handshake.specs.declared.out_conn.OutConn.{OutConn}
 use Rattle.artery_handshake.specs.declared.out_conn.OutState.{OutState}
 use Rattle.artery_handshake.specs.declared.out_conn.OutState.TheVariants.{Dialing, Asked, Bound}
-use Rattle.artery_handshake.specs.declared.out_conn.OnRsp.{OnRsp}
 use Rattle.artery_handshake.specs.declared.out_conn.OnRsp.TheVariants.{Bind, Repeat, Stray}
-use Rattle.artery_handshake.specs.Incoming.{state_after_req}
-use Rattle.artery_handshake.specs.Outgoing.{state_dialed, conn_dialed, answer_in, is_meant, conn_answered}
+use Rattle.artery_handshake.specs.Outgoing.{state_dialed, conn_dialed, answer_in, is_meant, conn_answered, state_after_rsp}
 use Rattle.artery_journal.specs.declared.line.Line.{Line}
 use Rattle.artery_journal.specs.declared.line.Line.TheVariants as lines
 use Rattle.artery_journal.specs.declared.rule.Rule.{Rule as DropRule}
@@ -28,23 +25,28 @@ use Rattle.artery_journal.specs.declared.words.Reason.TheVariants as reasons
 use Rattle.artery_machine.specs.declared.input.Conn.TheVariants.{Outward}
 use Rattle.artery_machine.specs.declared.link.Link.{Link}
 use Rattle.artery_machine.specs.declared.link.Answer.{Answer}
-use Rattle.artery_machine.specs.Lists.{or_else, change_first}
+use Rattle.artery_machine.specs.Lists.{change_first}
 use Rattle.artery_machine.specs.Deeds.{Writing, Begins, Controls, Writes, Hangs}
 use Rattle.artery_machine.specs.Parts.{whole}
 use Rattle.artery_machine.specs.Connections.{is_dialed, is_inward}
-use Rattle.artery_machine.specs.Node.{Node, Peer, Inbound, Origin, new_peer, is_peer, is_number, same_address, address_of, conn_of, link_of, with_link, peer_at, peer_dialed, stream_dialed, dial_asked, dialed_as, has_dial, has_origin, origin_at}
-use Rattle.artery_machine.specs.Doing.{Rule, ◌▸◌, stays, where_true, does, becomes, tells_of, writes_on, hangs_up, peer_becomes, inbound_becomes, origin_becomes, each}
+use Rattle.artery_machine.specs.Node.{incarnation, Node, Peer, Inbound, Origin, is_peer, same_address, address_of, conn_of, link_of, with_link, peer_at, peer_dialed, stream_dialed, dialed_as, has_dial, has_origin, origin_at}
+use Rattle.artery_machine.specs.Doing.{Rule, ◌▸◌, stays, where_true, does, becomes, tells_of, writes_on, hangs_up, peer_becomes, origin_becomes, each}
 use Rattle.artery_machine.specs.Making.{dials, makes_missing, uses, loses}
-use Rattle.artery_machine.specs.Closing.{dial_of, on_control}
+use Rattle.artery_machine.specs.Closing.{dial_of, on_control, closes_current}
 use Rattle.artery_machine.specs.World.{is_pending, does as does_outside}
-use Rattle.artery_machine.specs.Handshaking.{answer_to, response, change_conn, waits_for_dial, answer_on, is_met, quiet_now, owes_no_answer, request_rule, with_origin, known_as, owing, with_learnt, owes_no_ack, ordinary_dial, answer_at, asks_on, writes_answer, answers_owed, answers_all, answers_after, begins, dialed_of, dialed, lost_of, lost, gives_up, makes_origin, answers_on, answers, is_asked, drops, drops_or, requested, tells_all_sent, tells_waiting, writes_owed_ack, dials_ordinary, goes_on, learns_new, learns_as, learns, strays, binds_ordinary, binds, answered_as, takes_answer, answered_by, answered_to, strays_unless, then_ordinary, answered_plainly, answered}
+use Rattle.artery_machine.specs.Handshaking.{answer_to, response, change_conn, waits_for_dial, quiet_now, owes_no_answer, with_origin, with_learnt, owes_no_ack, asks_on, writes_answer, answers_owed, answers_all, answers_after, begins, dialed_of, dialed, lost_of, lost, gives_up, makes_origin, drops, drops_or, tells_waiting, writes_owed_ack, dials_ordinary, goes_on, learns_new, learns_as, learns, strays, binds}
 use Rattle.artery_flight.specs.Flight.{is_frame}
-use Rattle.artery_flight.proofs.Lists.{on_cond, eq_true, eq_self, and_left, and_right, and_both, some_same, not_some, Each, each_weaker, count, count_here, Placed, single_each, find_passes, find_single, find_change}
+use Rattle.artery_flight.proofs.Lists.{on_cond, eq_true, eq_self, and_left, and_right, and_both, some_same, Each, each_weaker, count, count_here, Placed, single_each, find_passes, find_single}
 use Rattle.artery_flight.proofs.Grow.{one_placed, one_here}
-use Rattle.artery_flight.proofs.Facts.{Network, Conn, Reaches, ComesFrom, comes_grow, IsAnswerFor, answer_grow, OwedFacts, KnownFacts, InboundFacts, owed_later, Out, IsTrue, Speaks, IsSilent, StateFacts, OutConnFacts, PeerFacts, NodeFacts, later_self, dialer_of, node_later}
+use Rattle.artery_flight.proofs.Facts.{ConnNamed, Network, Conn, Reaches, ComesFrom, comes_grow, IsAnswerFor, answer_grow, OwedFacts, InboundFacts, owed_later, Out, IsTrue, Speaks, IsSilent, StateFacts, OutConnFacts, NodeFacts, later_self, dialer_of, node_later}
 use Rattle.artery_flight.proofs.Deeds.{outward, only, Changes, IsNext, MayWrite, writes_changes, writes_speaks}
-use Rattle.artery_flight.proofs.Rules.{Good, Kept, Premise, Work, Keeps, always, speaking, where_read, both, keeps_from, IsSameInbound, kept_self, kept_then, none_is, none_not, ◌▹◌, address_self, peers_facts, link_facts, link_at, changed_conn, answered_facts, peer_facts_at, asked_speaks, may_say, write_kept, stays_keep, quiet_keeps, tells_keep, hangs_keep, becomes_keep, inbound_keep, origin_keep, peer_keep, link_keeps, where_keeps, on_control_keeps, dials_keep}
-use Rattle.artery_flight.proofs.Sending.{learnt_stays, makes_missing_keeps, uses_keeps, loses_keeps, closes_current_keeps, pumps_keep, rewinds_keep, tells_sent_keeps, tells_held_keeps}
+use Rattle.artery_flight.proofs.Lines.{IsPlainLine, IsOwn, IsNamed, named_more}
+use Rattle.artery_flight.proofs.Rules.{Good, Kept, Premise, Work, Keeps, always, speaking, where_read, where_known, both, keeps_from, link_named, link_sent, IsSameInbound, kept_self, kept_then, none_is, none_not, ◌▹◌, address_self, peers_facts, link_facts, link_at, may_say, write_kept, stays_keep, quiet_keeps, tells_keep, hangs_keep, becomes_keep, inbound_keep, origin_keep, peer_keep, where_keeps}
+use Rattle.artery_flight.proofs.Controlling.{each_own, on_control_keeps, dials_keep}
+use Rattle.artery_flight.proofs.Sending.{makes_missing_keeps, uses_keeps, loses_keeps, pumps_keep, rewinds_keep}
+use Rattle.artery_flight.proofs.Peers.{learns_former}
+use Rattle.artery_flight.proofs.Learning.{Readied, readied, learnt_kept}
+use Rattle.artery_machine.specs.declared.world.Outcome.{Outcome}
 
 -- ---- a connection begins
 
@@ -53,14 +55,14 @@ pub record Begun (u x : ℕ) (o : Node whole) (w : Network) (n : Node whole) (v 
   pub kept : Kept u o w n v
   pub speaks : v.ended ≡ None → Speaks u x v.connections
 
-may_begin : (u x : ℕ) (cs : List Conn) (stream : Stream) → IsSilent u x cs → MayWrite u x cs (Begins stream)
-may_begin u x cs stream s = record { next = each_weaker _ _ (λ c k i o. subst (λ ws. IsNext ws (Begins stream)) (sym (k i)) (stream, refl)) cs s.nothing; said = all cs }
+pub may_begin : (u x : ℕ) (cs : List Conn) (os : List Outcome) (stream : Stream) → IsSilent u x cs → MayWrite u x cs os (Begins stream)
+may_begin u x cs os stream s = record { own = λ r. each_own u x os (Begins stream) (λ far. tt) cs; next = each_weaker _ _ (λ c k i o. subst (λ ws. IsNext ws (Begins stream)) (sym (k i)) (stream, refl)) cs s.nothing; said = all cs }
   where
     all : (ds : List Conn) → Each (λ (c : Conn). is_dialed u x c ≡ true → IsTrue cs c (Begins stream)) ds
     all [] = tt
     all (c ∷ ds) = ((λ t. tt), all ds)
 
-up_facts : (u x : ℕ) (cs : List Conn) (now : ℕ) (l : Link) → has_dial x l.conn ≡ true → Speaks u x cs → OutConnFacts u cs l.conn → OutConnFacts u cs (change_conn (conn_dialed now) l).conn
+pub up_facts : (u x : ℕ) (cs : List Conn) (now : ℕ) (l : Link) → has_dial x l.conn ≡ true → Speaks u x cs → OutConnFacts u cs l.conn → OutConnFacts u cs (change_conn (conn_dialed now) l).conn
 up_facts u x cs now l e s h = by l.conn e h
   where
     by : (c : Option OutConn) → has_dial x c ≡ true → OutConnFacts u cs c → OutConnFacts u cs (change_conn (conn_dialed now) (record l { conn = c })).conn
@@ -72,14 +74,50 @@ up_facts u x cs now l e s h = by l.conn e h
         at_state (Asked begun last) k = k
         at_state (Bound uid) k = k
 
-dial_is : (x : ℕ) (p : Peer whole) → dialed_as x p ≡ true → has_dial x (conn_of (stream_dialed x p) p) ≡ true
+-- a state is bound only where it was
+pub dialed_named : (os : List Outcome) (a : Address) (now : ℕ) (l : Link) → ConnNamed os a l.conn → ConnNamed os a (change_conn (conn_dialed now) l).conn
+dialed_named os a now l h = by l.conn h
+  where
+    by : (c : Option OutConn) → ConnNamed os a c → ConnNamed os a (change_conn (conn_dialed now) (record l { conn = c })).conn
+    by None k = tt
+    by (Some c) k = λ uid e. k uid (at_state c.state uid e)
+      where
+        not_bound : {P : Type 0} {uid : ℕ} → Asked now now ≡ Bound uid → P
+        not_bound e = cc
+
+        at_state : (s : OutState) (uid : ℕ) → state_dialed now s ≡ Bound uid → s ≡ Bound uid
+        at_state Dialing uid e = not_bound e
+        at_state (Asked begun last) uid e = e
+        at_state (Bound bound) uid e = e
+
+pub answered_named : (os : List Outcome) (a : Address) (me from : ℕ) (for its_nonce : Option ℕ) → IsNamed (incarnation a from) os → (l : Link) → ConnNamed os a l.conn → ConnNamed os a (change_conn (conn_answered me from for its_nonce) l).conn
+answered_named os a me from for its_nonce named l h = by l.conn h
+  where
+    by : (c : Option OutConn) → ConnNamed os a c → ConnNamed os a (change_conn (conn_answered me from for its_nonce) (record l { conn = c })).conn
+    by None k = tt
+    by (Some c) k = λ uid e. at_state c.state (is_meant me c.dial for its_nonce) uid k e
+      where
+        bound_is : {uid : ℕ} → Bound from ≡ Bound uid → from ≡ uid
+        bound_is e = cc
+
+        at_state : (s : OutState) (meant : Bool) (uid : ℕ) → ((y : ℕ) → s ≡ Bound y → IsNamed (incarnation a y) os) → state_after_rsp (answer_in s from meant) s ≡ Bound uid → IsNamed (incarnation a uid) os
+        at_state Dialing meant uid q e = q uid e
+        at_state (Asked begun last) true uid q e = subst (λ (y : ℕ). IsNamed (incarnation a y) os) (bound_is e) named
+        at_state (Asked begun last) false uid q e = q uid e
+        at_state (Bound bound) meant uid q e = q uid (same (meant && (bound == from)) e)
+          where
+            same : (b : Bool) → state_after_rsp (cond b Repeat Stray) (Bound bound) ≡ Bound uid → Bound bound ≡ Bound uid
+            same true f = f
+            same false f = f
+
+pub dial_is : (x : ℕ) (p : Peer whole) → dialed_as x p ≡ true → has_dial x (conn_of (stream_dialed x p) p) ≡ true
 dial_is x p h = by (has_dial x p.control.conn) refl h
   where
     by : (b : Bool) → has_dial x p.control.conn ≡ b → (b || has_dial x p.ordinary.conn) ≡ true → has_dial x (conn_of (cond b streams.Control streams.Ordinary) p) ≡ true
     by true e k = e
     by false e k = k
 
-link_conn : (stream : Stream) (p : Peer whole) → (link_of stream p).conn ≡ conn_of stream p
+pub link_conn : (stream : Stream) (p : Peer whole) → (link_of stream p).conn ≡ conn_of stream p
 link_conn stream p = refl
 
 pub begun_kept : (u m x : ℕ) (p : Peer whole) (d : Work u m) → find (dialed_as x) d.node.peers ≡ Some p → (d.deeds.ended ≡ None → IsSilent u x d.deeds.connections) → Good u d.node d.deeds
@@ -105,19 +143,21 @@ begun_kept u m x p d found silent g = on_cond (λ (v : Network). Begun u x d.nod
     going e =
         let v : Network = does_outside u m (Writes x (Begins (stream_dialed x p))) w in
         let s : IsSilent u x w.connections = silent e in
-        let c : Changes u w v = writes_changes u m x (Begins (stream_dialed x p)) w g.out (may_begin u x w.connections (stream_dialed x p) s) in
+        let c : Changes u w v = writes_changes u m x (Begins (stream_dialed x p)) w g.out (may_begin u x w.connections w.outcomes (stream_dialed x p) s) in
         let speaks : v.ended ≡ None → Speaks u x v.connections = writes_speaks u m x (Begins (stream_dialed x p)) w s in
         record {
           kept = record {
             good = record {
               out = c.out;
-              node = λ live. (let h : NodeFacts u d.node v = node_later (only u) u d.node w v c.later.conns c.pending (g.node e) in
+              node = λ live. (let h : NodeFacts u d.node v = node_later (only u) u d.node w v c.later.conns c.later.told (λ y. c.sent d.node.me y) c.pending (g.node e) in
                   let one : find (is_peer (address_of p)) d.node.peers ≡ Some p = find_single (is_peer (address_of p)) (dialed_as x) d.node.peers p (h.alone (address_of p)) found (address_self (address_of p)) in
                   peers_facts u d.node v (address_of p) (with_link (stream_dialed x p) f) (link_at (stream_dialed x p) f)
                   (λ q i r. link_facts u v.connections (stream_dialed x p) f q
                   (λ z. up_facts u x v.connections d.node.moment (link_of (stream_dialed x p) q)
                   (subst (λ (y : Peer whole). has_dial x (link_of (stream_dialed x p) y).conn ≡ true) (some_same (sym one ∙ i)) (dial_is x p (find_passes (dialed_as x) d.node.peers p found)))
-                  (speaks live) z) r) h);
+                  (speaks live) z) r)
+                  (λ r q i t. link_named v.outcomes (stream_dialed x p) f q (λ z. dialed_named v.outcomes q.incarnations.address d.node.moment q.control z) t)
+                  (λ q i t. link_sent d.node.me v.outcomes (stream_dialed x p) f q t) h);
             };
             later = c.later;
             bytes = λ j. refl;
@@ -140,15 +180,17 @@ abbrev pub asking : (u k v : ℕ) (its_nonce : Option ℕ) → Premise u
 asking u k v its_nonce = where_read u (λ cs. ComesFrom u k v its_nonce cs) (λ cs ds g h. comes_grow (only u) u k v its_nonce cs ds g h)
 
 -- an answer came to this node, and it is one for a connection that reaches who answers
-abbrev pub answering : (u me v : ℕ) (for_uid its_nonce : Option ℕ) → Premise u
-answering u me v for_uid its_nonce = where_read u (λ cs. (me ≡ u) × IsAnswerFor v for_uid its_nonce cs) (λ cs ds g h. (h.0, answer_grow (only u) v for_uid its_nonce cs ds g h.1))
+abbrev pub answering : (u me : ℕ) (v : UniqueAddress) (for_uid its_nonce : Option ℕ) → Premise u
+answering u me v for_uid its_nonce = where_known u (λ w. (me ≡ u) × IsAnswerFor v.uid for_uid its_nonce w.connections × IsNamed v w.outcomes)
+    (λ w x l h. (h.0, answer_grow (only u) v.uid for_uid its_nonce w.connections x.connections l.conns h.1, named_more v w.outcomes x.outcomes l.told h.2))
 
 -- an answer that came is one for a connection that reaches who answers
-abbrev pub meeting : (u v : ℕ) (for_uid its_nonce : Option ℕ) → Premise u
-meeting u v for_uid its_nonce = where_read u (λ cs. IsAnswerFor v for_uid its_nonce cs) (λ cs ds g h. answer_grow (only u) v for_uid its_nonce cs ds g h)
+abbrev pub meeting : (u : ℕ) (v : UniqueAddress) (for_uid its_nonce : Option ℕ) → Premise u
+meeting u v for_uid its_nonce = where_known u (λ w. IsAnswerFor v.uid for_uid its_nonce w.connections × IsNamed v w.outcomes)
+    (λ w x l h. (answer_grow (only u) v.uid for_uid its_nonce w.connections x.connections l.conns h.0, named_more v w.outcomes x.outcomes l.told h.1))
 
 -- the answer to one that dialed a connection is one for that
-asked_answer : (u k : ℕ) (v : UniqueAddress) (its_nonce : Option ℕ) (w : Network) → Out w → ComesFrom u k v.uid its_nonce w.connections → IsAnswerFor u (answer_to v its_nonce).for_uid (answer_to v its_nonce).nonce w.connections
+pub asked_answer : (u k : ℕ) (v : UniqueAddress) (its_nonce : Option ℕ) (w : Network) → Out w → ComesFrom u k v.uid its_nonce w.connections → IsAnswerFor u (answer_to v its_nonce).for_uid (answer_to v its_nonce).nonce w.connections
 asked_answer u k v its_nonce w out o =
     let spot : Placed (is_inward u k) w.connections = one_placed (is_inward u k) _ w.connections o in
     let c : Conn = spot.element in
@@ -163,37 +205,40 @@ asked_answer u k v its_nonce w out o =
 
 -- where the connection with the dial number speaks
 module _ {u m x : ℕ} where
-  says_here : (w : (d : Work u m) → Writing) (f : (d : Work u m) → is_frame (w d) ≡ true) → ((d : Work u m) → NodeFacts u d.node d.deeds → (cs : List Conn) (c : Conn) → is_dialed u x c ≡ true → IsTrue cs c (w d)) → Keeps u m (speaking u x) (λ d. writes_on (Some x) (w d) d)
-  says_here w f t = record { on = λ d h g. write_kept u m x d.node d.deeds (w d) g (λ live. may_say u x d.deeds.connections (w d) (f d) (t d (g.node live) d.deeds.connections) (h live)) }
+  pub says_here : (w : (d : Work u m) → Writing) (f : (d : Work u m) → is_frame (w d) ≡ true) → ((d : Work u m) → NodeFacts u d.node d.deeds → (cs : List Conn) (c : Conn) → is_dialed u x c ≡ true → IsTrue cs c (w d)) → ((d : Work u m) (os : List Outcome) (far : ℕ) → IsOwn os far (w d)) → Keeps u m (speaking u x) (λ d. writes_on (Some x) (w d) d)
+  says_here w f t o = record {
+    on = λ d h g. write_kept u m x d.node d.deeds (w d) g (λ live. may_say u x d.deeds.connections d.deeds.outcomes (w d) (f d) (t d (g.node live) d.deeds.connections) (λ r. each_own u x d.deeds.outcomes (w d) (o d d.deeds.outcomes) d.deeds.connections) (h live));
+  }
 
   pub asks_on_keeps : (a : Address) → Keeps u m (speaking u x) (asks_on a x)
   asks_on_keeps a = says_here (λ d. Controls (controls.HandshakeReq d.node.me a (Some x))) (λ d. refl)
       (λ d h cs c t. record { from = h.me ∙ sym (dialer_of u x c t); nonce = ap Some (sym (eq_true c.dial x (and_right (c.dialer == u) (c.dial == x) t))) })
+      (λ d os far. tt)
 
   -- the answer is one for a connection that reaches this node
   pub writes_answer_keeps : (answer : Option Answer) → Keeps u m (both u (speaking u x) (owing_one u answer)) (writes_answer x answer)
   writes_answer_keeps None = record { on = λ d h g. kept_self u d.node d.deeds g }
   writes_answer_keeps (Some answer) = record {
-    on = λ d h g. write_kept u m x d.node d.deeds (Controls (response d.node.me answer)) g (λ live. may_say u x d.deeds.connections (Controls (response d.node.me answer)) refl
-        (λ c t a. ((g.node live).me ∙ sym (dialer_of u x c t), subst (λ (f : ℕ). IsAnswerFor f answer.for_uid answer.nonce d.deeds.connections) (sym (g.node live).me) (h.1 live a))) (h.0 live));
+    on = λ d h g. write_kept u m x d.node d.deeds (Controls (response d.node.me answer)) g (λ live. may_say u x d.deeds.connections d.deeds.outcomes (Controls (response d.node.me answer)) refl
+        (λ c t a. ((g.node live).me ∙ sym (dialer_of u x c t), subst (λ (f : ℕ). IsAnswerFor f answer.for_uid answer.nonce d.deeds.connections) (sym (g.node live).me) (h.1 live a))) (λ r. each_own u x d.deeds.outcomes (Controls (response d.node.me answer)) (λ far. (g.node live).named) d.deeds.connections) (h.0 live));
   }
 
-  answers_owed_keep : (a : Address) (i : Inbound whole) (s : InState) → Keeps u m (both u (speaking u x) (owing_one u i.owed)) (answers_owed a x i s)
+  pub answers_owed_keep : (a : Address) (i : Inbound whole) (s : InState) → Keeps u m (both u (speaking u x) (owing_one u i.owed)) (answers_owed a x i s)
   answers_owed_keep a i Raw = stays_keep
   answers_owed_keep a i (Known who its_nonce) = where_keeps (same_address who.address a) _ (inbound_keep i.number owes_no_answer owes_nothing (λ w h e j t q. record { owed = λ b. tt; known = q.known }) ▹ writes_answer_keeps i.owed)
 
-  all_answered : (a : Address) (is : List (Inbound whole)) → Keeps u m (both u (speaking u x) (owing_each u is)) (each is (λ i. answers_owed a x i i.state))
+  pub all_answered : (a : Address) (is : List (Inbound whole)) → Keeps u m (both u (speaking u x) (owing_each u is)) (each is (λ i. answers_owed a x i i.state))
   all_answered a [] = stays_keep
   all_answered a (i ∷ is) =
       keeps_from _ (both u (speaking u x) (owing_one u i.owed)) _ (λ d h g. (h.0, λ e b. (h.1 e b).0)) (answers_owed_keep a i i.state)
       ▹ keeps_from _ (both u (speaking u x) (owing_each u is)) _ (λ d h g. (h.0, λ e b. (h.1 e b).1)) (all_answered a is)
 
-  answers_all_keep : (a : Address) → Keeps u m (speaking u x) (answers_all a x)
+  pub answers_all_keep : (a : Address) → Keeps u m (speaking u x) (answers_all a x)
   answers_all_keep a = record {
     on = λ d h g. (all_answered a d.node.inbound).on d (h, λ e b. each_weaker (InboundFacts u d.deeds.connections) _ (λ i q. q.owed b) d.node.inbound (g.node e).inbound) g;
   }
 
-  answers_after_keep : (stream : Stream) (a : Address) → Keeps u m (speaking u x) (answers_after stream a x)
+  pub answers_after_keep : (stream : Stream) (a : Address) → Keeps u m (speaking u x) (answers_after stream a x)
   answers_after_keep streams.Control a = answers_all_keep a
   answers_after_keep streams.Ordinary a = stays_keep
 
@@ -221,7 +266,7 @@ dialed_kept u m x d silent g = by (peer_dialed x d.node) refl
 
 -- ---- answers that bind
 
-bind_speaks : (u : ℕ) (cs : List Conn) (c : OutConn) (from uid : ℕ) (meant : Bool) → StateFacts u cs c.dial c.state → answer_in c.state from meant ≡ Bind uid → Speaks u c.dial cs
+pub bind_speaks : (u : ℕ) (cs : List Conn) (c : OutConn) (from uid : ℕ) (meant : Bool) → StateFacts u cs c.dial c.state → answer_in c.state from meant ≡ Bind uid → Speaks u c.dial cs
 bind_speaks u cs c from uid meant h e = by c.state meant h e
   where
     by : (s : OutState) (meant : Bool) → StateFacts u cs c.dial s → answer_in s from meant ≡ Bind uid → Speaks u c.dial cs
@@ -237,28 +282,28 @@ pub record BoundOrdinary (u : ℕ) (v : UniqueAddress) (n : Node whole) (cs : Li
   pub speaks : (x : ℕ) → dial_of (conn_of streams.Ordinary (peer_at v.address n)) ≡ Some x → Speaks u x cs
 
 module _ {u m : ℕ} {p : Premise u} where
-  stays_here : Keeps u m p stays
+  pub stays_here : Keeps u m p stays
   stays_here = stays_keep
 
-  tells_here : (line : UniqueAddress → Line) → Keeps u m p (tells_of line)
-  tells_here line = tells_keep line
+  pub tells_here : (line : UniqueAddress → Line) → ((me : UniqueAddress) → IsPlainLine (line me)) → Keeps u m p (tells_of line)
+  tells_here line s = tells_keep line s
 
-  hangs_here : (x : Option ℕ) → Keeps u m p (hangs_up x)
+  pub hangs_here : (x : Option ℕ) → Keeps u m p (hangs_up x)
   hangs_here x = hangs_keep x
 
-  origin_here : (v : UniqueAddress) (f : Origin whole → Origin whole) → Keeps u m p (origin_becomes v f)
+  pub origin_here : (v : UniqueAddress) (f : Origin whole → Origin whole) → Keeps u m p (origin_becomes v f)
   origin_here v f = origin_keep v f
 
-  where_here : (b : Bool) (r : Rule whole (outward u m)) → Keeps u m p r → Keeps u m p (where_true b r)
+  pub where_here : (b : Bool) (r : Rule whole (outward u m)) → Keeps u m p r → Keeps u m p (where_true b r)
   where_here b r k = where_keeps b r k
 
-  loses_here : (stream : Stream) (a : Address) → Keeps u m p (loses stream a)
+  pub loses_here : (stream : Stream) (a : Address) → Keeps u m p (loses stream a)
   loses_here stream a = loses_keeps stream a
 
-  uses_here : (a : Address) → Keeps u m p (uses a)
+  pub uses_here : (a : Address) → Keeps u m p (uses a)
   uses_here a = uses_keeps a
 
-  lost_of_keeps : (x : ℕ) (q : Option (Peer whole)) → Keeps u m p (lost_of x q)
+  pub lost_of_keeps : (x : ℕ) (q : Option (Peer whole)) → Keeps u m p (lost_of x q)
   lost_of_keeps x None = stays_here
   lost_of_keeps x (Some q) = loses_here (stream_dialed x q) (address_of q)
 
@@ -271,192 +316,70 @@ module _ {u m : ℕ} {p : Premise u} where
   -- ---- requests
 
   pub drops_keep : (k : ℕ) (rule : DropRule) → Keeps u m p (drops k rule)
-  drops_keep k rule = tells_here (λ me. lines.Dropped me k rule)
+  drops_keep k rule = tells_here (λ me. lines.Dropped me k rule) (λ me. (refl, refl, refl))
 
-  makes_origin_keeps : (v : UniqueAddress) → Keeps u m p (makes_origin v)
+  pub makes_origin_keeps : (v : UniqueAddress) → Keeps u m p (makes_origin v)
   makes_origin_keeps v = record { on = λ d h g. (where_here (not (has_origin v d.node)) _ made).on d h g }
     where
       made : Keeps u m p (becomes (with_origin v))
       made = becomes_keep (with_origin v) (λ n. record { me = refl; dials = refl; peers = refl; inbound = refl })
 
-  made_here : (a : Address) → Keeps u m p (makes_missing a)
+  pub made_here : (a : Address) → Keeps u m p (makes_missing a)
   made_here a = makes_missing_keeps a
 
-  drops_or_keeps : (k : ℕ) (rule : Option DropRule) (r : Rule whole (outward u m)) → Keeps u m p r → Keeps u m p (drops_or k rule r)
+  pub drops_or_keeps : (k : ℕ) (rule : Option DropRule) (r : Rule whole (outward u m)) → Keeps u m p r → Keeps u m p (drops_or k rule r)
   drops_or_keeps k None r a = a
   drops_or_keeps k (Some rule) r a = drops_keep k rule
 
   -- ---- binding
 
-  all_sent_keep : (a : Address) (uid n : ℕ) (ms : List SysMsg) → Keeps u m p (tells_all_sent a uid n ms)
-  all_sent_keep a uid n [] = stays_here
-  all_sent_keep a uid n (x ∷ xs) = tells_sent_keeps a (Some uid) n x ▹ all_sent_keep a uid (n + 1) xs
-
-  waiting_keep : (a : Address) (uid : ℕ) → Keeps u m p (tells_waiting a uid)
-  waiting_keep a uid = record { on = λ d h g. (all_sent_keep a uid 1 (whole.unacknowledged (peer_at a d.node).out)).on d h g }
-
   pub quiet_keep : (a : Address) (now : ℕ) → Keeps u m p (peer_becomes a (quiet_now now))
-  quiet_keep a now = peer_keep a (quiet_now now) (record { address = λ q. refl; control = λ q. refl; ordinary = λ q. refl })
+  quiet_keep a now = peer_keep a (quiet_now now) (record { incarnations = λ q. refl; out = λ q. refl; control = λ q. refl; ordinary = λ q. refl })
 
-  control_here : (v : UniqueAddress) (n : ℕ) (me : UniqueAddress) → Keeps u m p (on_control v (controls.Ack n me))
+  pub control_here : (v : UniqueAddress) (n : ℕ) (me : UniqueAddress) → Keeps u m p (on_control v (controls.Ack n me))
   control_here v n me = on_control_keeps v (controls.Ack n me) tt
 
-  owed_keeps : (v : UniqueAddress) → Keeps u m p (writes_owed_ack v)
+  pub owed_keeps : (v : UniqueAddress) → Keeps u m p (writes_owed_ack v)
   owed_keeps v = record { on = λ d h g. (where_here (origin_at v d.node).owes _ (origin_here v owes_no_ack ▹ control_here v (whole.last_taken v d.node.taken) d.node.me)).on d h g }
 
-  dials_here : (stream : Stream) (a : Address) → Keeps u m p (dials stream a)
+  pub dials_here : (stream : Stream) (a : Address) → Keeps u m p (dials stream a)
   dials_here stream a = dials_keep stream a
 
-  ordinary_keeps : (a : Address) → Keeps u m p (dials_ordinary a)
+  pub ordinary_keeps : (a : Address) → Keeps u m p (dials_ordinary a)
   ordinary_keeps a = record { on = λ d h g. (where_here (not (is_some (conn_of streams.Ordinary (peer_at a d.node)))) _ (dials_here streams.Ordinary a)).on d h g }
 
-  goes_on_keeps : (v : UniqueAddress) → Keeps u m p (goes_on v)
+  pub goes_on_keeps : (v : UniqueAddress) → Keeps u m p (goes_on v)
   goes_on_keeps v = record { on = λ d h g. (quiet_keep v.address d.node.moment ▹ owed_keeps v ▹ rewinds_keep v.address ▹ pumps_keep v.address ▹ ordinary_keeps v.address).on d h g }
 
-  learnt_keeps : (now : ℕ) (v : UniqueAddress) → Keeps u m p (peer_becomes v.address (with_learnt now v.uid))
-  learnt_keeps now v = peer_keep v.address (with_learnt now v.uid) (record { address = λ q. learnt_stays v.uid q.incarnations; control = λ q. refl; ordinary = λ q. refl })
-
-  new_keeps : (v : UniqueAddress) (former : Option ℕ) → Keeps u m p (learns_new v former)
-  new_keeps v former = record {
-    on = λ d h g. (closes_current_keeps v.address causes.Superseded former stays stays_here ▹ learnt_keeps d.node.moment v ▹ tells_here (λ me. lines.Learnt me v) ▹ waiting_keep v.address v.uid ▹ goes_on_keeps v).on d h g;
-  }
-
-  learns_as_keeps : (v : UniqueAddress) (x : Learn) → Keeps u m p (learns_as v x)
-  learns_as_keeps v WasClosed = tells_here (λ me. lines.Barred me v)
-  learns_as_keeps v ClosedFull = tells_here (λ me. lines.Refused me reasons.ClosedUids) ▹ gives_up_keeps streams.Control v.address
-  learns_as_keeps v Same = goes_on_keeps v
-  learns_as_keeps v (Learnt former) = new_keeps v former
-
-  learns_keep : (v : UniqueAddress) → Keeps u m p (learns v)
-  learns_keep v = record { on = λ d h g. (learns_as_keeps v (learning v.uid (peer_at v.address d.node).incarnations)).on d h g }
-
-  strays_keep : (v : UniqueAddress) (its_nonce : Option ℕ) → Keeps u m p (strays v its_nonce)
-  strays_keep v its_nonce = tells_here (λ me. lines.Stray me v its_nonce)
-
-  binds_control_keeps : (v : UniqueAddress) (its_nonce : Option ℕ) → Keeps u m p (binds streams.Control v its_nonce)
-  binds_control_keeps v its_nonce = record { on = λ d h g. (uses_here v.address ▹ learns_keep v).on d h g }
-
--- where who asks dialed the connection
 module _ {u m : ℕ} where
-  answers_keep : (k : ℕ) (v : UniqueAddress) (its_nonce : Option ℕ) → Keeps u m (asking u k v.uid its_nonce) (answers k v its_nonce)
-  answers_keep k v its_nonce = record { on = λ d h g. by d (λ e a. asked_answer u k v its_nonce d.deeds g.out (h e a)) g (dial_asked (conn_of streams.Control (peer_at v.address d.node))) refl }
+  pub new_kept : (p : Premise u) (v : UniqueAddress) (former : Option ℕ) (d : Work u m) → p.holds d.deeds → Good u d.node d.deeds → learning v.uid (peer_at v.address d.node).incarnations ≡ Learnt former → Kept u d.node d.deeds (learns_new v former d).node (learns_new v former d).deeds
+  new_kept p v former d h g e =
+      let d1 : Work u m = closes_current v.address causes.Superseded former stays d in
+      let r : Readied v d d1 = readied p v former d h g e (learns_former v.uid (peer_at v.address d.node).incarnations former e) in
+      let learnt : Rule whole (outward u m) = peer_becomes v.address (with_learnt d.node.moment v.uid) ▸ tells_of (λ me. lines.Learnt me v) ▸ tells_waiting v.address v.uid in
+      let d2 : Work u m = learnt d1 in
+      let k2 : Kept u d1.node d1.deeds d2.node d2.deeds = learnt_kept d.node.moment v d1 r.ready r.kept.good in
+      let k : Kept u d.node d.deeds d2.node d2.deeds = kept_then u d.node d.deeds d1.deeds d2.deeds d1.node d2.node r.kept k2 in
+      kept_then u d.node d.deeds d2.deeds (goes_on v d2).deeds d2.node (goes_on v d2).node k ((goes_on_keeps {p = p} v).on d2 (p.stays d.deeds d2.deeds k.later h) k.good)
+
+module _ {u m : ℕ} {p : Premise u} where
+  pub learns_keep : (v : UniqueAddress) → Keeps u m p (learns v)
+  learns_keep v = record { on = λ d h g. by d h g (learning v.uid (peer_at v.address d.node).incarnations) refl }
     where
-      owing_it : Keeps u m (owing_one u (Some (answer_to v its_nonce))) (inbound_becomes k (owing (answer_to v its_nonce)))
-      owing_it = inbound_keep k (owing (answer_to v its_nonce)) (record { number = λ i. refl; bytes = λ i. refl }) (λ w h e i t q. record { owed = λ a. h e a; known = q.known })
+      full : Keeps u m p (tells_of (λ me. lines.Refused me reasons.ClosedUids) ▸ gives_up streams.Control v.address)
+      full = tells_here (λ me. lines.Refused me reasons.ClosedUids) (λ me. (refl, refl, refl)) ▹ gives_up_keeps streams.Control v.address
 
-      quiet_then : (x : ℕ) → Keeps u m (both u (speaking u x) (owing_one u (Some (answer_to v its_nonce)))) (inbound_becomes k owes_no_answer ▸ writes_answer x (Some (answer_to v its_nonce)))
-      quiet_then x = inbound_keep k owes_no_answer owes_nothing (λ w h e i t q. record { owed = λ a. tt; known = q.known }) ▹ writes_answer_keeps (Some (answer_to v its_nonce))
+      barred : Keeps u m p (tells_of (λ me. lines.Barred me v))
+      barred = tells_here (λ me. lines.Barred me v) (λ me. (refl, refl, refl))
 
-      by : (d : Work u m) → (owing_one u (Some (answer_to v its_nonce))).holds d.deeds → Good u d.node d.deeds → (x : Option ℕ) → dial_asked (conn_of streams.Control (peer_at v.address d.node)) ≡ x → Kept u d.node d.deeds (answers_on k (answer_to v its_nonce) x d).node (answers_on k (answer_to v its_nonce) x d).deeds
-      by d h g None e = owing_it.on d h g
-      by d h g (Some x) e = (quiet_then x).on d
-          ((λ live. asked_speaks u d.deeds.connections (conn_of streams.Control (peer_at v.address d.node)) x (peer_facts_at u d.node d.deeds v.address (g.node live)).control e), h) g
+      by : (d : Work u m) → p.holds d.deeds → Good u d.node d.deeds → (x : Learn) → learning v.uid (peer_at v.address d.node).incarnations ≡ x → Kept u d.node d.deeds (learns_as v x d).node (learns_as v x d).deeds
+      by d h g WasClosed e = barred.on d h g
+      by d h g ClosedFull e = full.on d h g
+      by d h g Same e = (goes_on_keeps {p = p} v).on d h g
+      by d h g (Learnt former) e = new_kept p v former d h g e
 
-  known_here : (k : ℕ) (v : UniqueAddress) (its_nonce : Option ℕ) → Keeps u m (asking u k v.uid its_nonce) (inbound_becomes k (known_as v its_nonce))
-  known_here k v its_nonce = inbound_keep k (known_as v its_nonce) (record { number = λ i. refl; bytes = λ i. refl }) (λ w h e i t q. record { owed = q.owed; known = λ a. after w.connections i t (h e a) i.state (q.known a) })
-    where
-      after : (cs : List Conn) (i : Inbound whole) → is_number k i ≡ true → ComesFrom u k v.uid its_nonce cs → (s : InState) → KnownFacts u cs i.number s → KnownFacts u cs i.number (state_after_req v its_nonce s)
-      after cs i t c Raw q = subst (λ (x : ℕ). ComesFrom u x v.uid its_nonce cs) (sym (eq_true i.number k t)) c
-      after cs i t c (Known who shown) q = q
+  pub strays_keep : (v : UniqueAddress) (its_nonce : Option ℕ) → Keeps u m p (strays v its_nonce)
+  strays_keep v its_nonce = tells_here (λ me. lines.Stray me v its_nonce) (λ me. (refl, refl, refl))
 
-  is_asked_keeps : (k : ℕ) (v : UniqueAddress) (its_nonce : Option ℕ) → Keeps u m (asking u k v.uid its_nonce) (is_asked k v its_nonce)
-  is_asked_keeps k v its_nonce = made_here v.address ▹ uses_here v.address ▹ known_here k v its_nonce ▹ makes_origin_keeps v ▹ answers_keep k v its_nonce
-
-pub requested_keeps : {u m : ℕ} (i : Inbound whole) (v : UniqueAddress) (to : Address) (its_nonce : Option ℕ) → Keeps u m (asking u i.number v.uid its_nonce) (requested i v to its_nonce)
-requested_keeps {u} {m} i v to its_nonce = record { on = λ d h g. (drops_or_keeps i.number (request_rule d.node i v to its_nonce) _ (is_asked_keeps i.number v its_nonce)).on d h g }
-
-module _ {u m : ℕ} where
-  answered_bind : (stream : Stream) (a : Address) (me from : ℕ) (for its_nonce : Option ℕ) → Keeps u m (answering u me from for its_nonce) (peer_becomes a (with_link stream (change_conn (conn_answered me from for its_nonce))))
-  answered_bind stream a me from for its_nonce = link_keeps stream a (change_conn (conn_answered me from for its_nonce))
-      (λ w h e l q. changed_conn u w.connections (conn_answered me from for its_nonce) (answered_facts u w.connections me from for its_nonce (λ b. h e b)) l q)
-
-  binds_bind : (me : ℕ) (v : UniqueAddress) (for its_nonce : Option ℕ) → Keeps u m (answering u me v.uid for its_nonce) (binds streams.Control v its_nonce)
-  binds_bind me v for its_nonce = binds_control_keeps v its_nonce
-
-  -- the ordinary connection that was bound speaks
-  binds_ordinary_kept : (v : UniqueAddress) (its_nonce : Option ℕ) (d : Work u m) → Good u d.node d.deeds → (d.deeds.ended ≡ None → BoundOrdinary u v d.node d.deeds.connections)
-      → Kept u d.node d.deeds (binds streams.Ordinary v its_nonce d).node (binds streams.Ordinary v its_nonce d).deeds
-  binds_ordinary_kept v its_nonce d g b = by (ordinary_dial v (peer_at v.address d.node)) refl
-    where
-      none : Keeps u m (always u) (strays v its_nonce ▸ gives_up streams.Ordinary v.address)
-      none = strays_keep v its_nonce ▹ gives_up_keeps streams.Ordinary v.address
-
-      is_dial : (c : Bool) (x : ℕ) (y : Option ℕ) → cond c y None ≡ Some x → y ≡ Some x
-      is_dial true x y e = e
-      is_dial false x y e = not_some e
-
-      by : (x : Option ℕ) → ordinary_dial v (peer_at v.address d.node) ≡ x → Kept u d.node d.deeds (binds_ordinary v its_nonce x d).node (binds_ordinary v its_nonce x d).deeds
-      by None e = none.on d tt g
-      by (Some x) e = (tells_held_keeps {u = u} {m = m} {x = x} v.address).on d (λ live. (b live).speaks x (is_dial _ x _ e)) g
-
-  -- an answer that binds a connection
-  bound_kept : (stream : Stream) (v : UniqueAddress) (for its_nonce : Option ℕ) (uid : ℕ) (d : Work u m) → answer_at stream d.node v for its_nonce ≡ Bind uid → (answering u d.node.me.uid v.uid for its_nonce).holds d.deeds → Good u d.node d.deeds
-      → Kept u d.node d.deeds (answered_as stream v for its_nonce (Bind uid) d).node (answered_as stream v for its_nonce (Bind uid) d).deeds
-  bound_kept streams.Control v for its_nonce uid d e h g = (answered_bind streams.Control v.address d.node.me.uid v.uid for its_nonce ▹ binds_bind d.node.me.uid v for its_nonce).on d h g
-  bound_kept streams.Ordinary v for its_nonce uid d e h g =
-      let c : Kept u d.node d.deeds (peer_becomes v.address (with_link streams.Ordinary f) d).node d.deeds = (answered_bind streams.Ordinary v.address d.node.me.uid v.uid for its_nonce).on d h g in
-      let d1 : Work u m = peer_becomes v.address (with_link streams.Ordinary f) d in
-      kept_then u d.node d.deeds d.deeds (binds streams.Ordinary v its_nonce d1).deeds d1.node (binds streams.Ordinary v its_nonce d1).node c
-      (binds_ordinary_kept v its_nonce d1 c.good (λ live. bound (find (is_peer v.address) d.node.peers) refl e (g.node live)))
-    where
-      f : Link → Link
-      f = change_conn (conn_answered d.node.me.uid v.uid for its_nonce)
-
-      changed : Node whole
-      changed = record d.node { peers = change_first (is_peer v.address) (with_link streams.Ordinary (change_conn (conn_answered d.node.me.uid v.uid for its_nonce))) d.node.peers }
-
-      not_bind : {X : Type 0} {uid : ℕ} → Stray ≡ Bind uid → X
-      not_bind k = cc
-
-      at_conn : (q : Peer whole) (c : Option OutConn) → answer_on d.node.me.uid v for its_nonce c ≡ Bind uid → OutConnFacts u d.deeds.connections c
-          → (x : ℕ) → dial_of (change_conn (conn_answered d.node.me.uid v.uid for its_nonce) (record q.ordinary { conn = c })).conn ≡ Some x → Speaks u x d.deeds.connections
-      at_conn q None k t x i = not_bind k
-      at_conn q (Some c) k t x i = subst (λ (y : ℕ). Speaks u y d.deeds.connections) (some_same i) (bind_speaks u d.deeds.connections c v.uid uid (is_meant d.node.me.uid c.dial for its_nonce) t k)
-
-      bound : (q : Option (Peer whole)) → find (is_peer v.address) d.node.peers ≡ q → answer_on d.node.me.uid v for its_nonce (or_else (new_peer v.address) q).ordinary.conn ≡ Bind uid → NodeFacts u d.node d.deeds
-          → BoundOrdinary u v changed d.deeds.connections
-      bound None i k t = not_bind k
-      bound (Some q) i k t = record {
-        speaks = λ x j. (let facts : PeerFacts u d.deeds.connections q = subst (λ (o : Option (Peer whole)). PeerFacts u d.deeds.connections (or_else (new_peer v.address) o)) i (peer_facts_at u d.node d.deeds v.address t) in
-            let now : find (is_peer v.address) changed.peers ≡ Some (with_link streams.Ordinary f q) = find_change (is_peer v.address) (with_link streams.Ordinary f) (λ y z. z) d.node.peers q i in
-            at_conn q q.ordinary.conn k facts.ordinary x (sym (ap (λ (o : Option (Peer whole)). dial_of (or_else (new_peer v.address) o).ordinary.conn) now) ∙ j));
-      }
-
--- where the answer is one for a connection that reaches who answers
-module _ {u m : ℕ} where
-  strays_met : {p : Premise u} (v : UniqueAddress) (its_nonce : Option ℕ) → Keeps u m p (strays v its_nonce)
-  strays_met v its_nonce = strays_keep v its_nonce
-
-  pub takes_keep : (stream : Stream) (v : UniqueAddress) (for its_nonce : Option ℕ) → Keeps u m (meeting u v.uid for its_nonce) (takes_answer stream v for its_nonce)
-  takes_keep stream v for its_nonce = record { on = λ d h g. by d h g (answer_at stream d.node v for its_nonce) refl }
-    where
-      by : (d : Work u m) → (meeting u v.uid for its_nonce).holds d.deeds → Good u d.node d.deeds → (x : OnRsp) → answer_at stream d.node v for its_nonce ≡ x
-          → Kept u d.node d.deeds (answered_as stream v for its_nonce x d).node (answered_as stream v for its_nonce x d).deeds
-      by d h g (Bind uid) e = bound_kept stream v for its_nonce uid d e (λ live a. ((g.node live).me, h live a)) g
-      by d h g Repeat e = kept_self u d.node d.deeds g
-      by d h g Stray e = kept_self u d.node d.deeds g
-
-  answered_by_keeps : (stream : Stream) (v : UniqueAddress) (for its_nonce : ℕ) (b : Bool) → Keeps u m (meeting u v.uid (Some for) (Some its_nonce)) (answered_by stream v for its_nonce b)
-  answered_by_keeps stream v for its_nonce true = takes_keep stream v (Some for) (Some its_nonce)
-  answered_by_keeps stream v for its_nonce false = strays_met v (Some its_nonce)
-
-  answered_to_keeps : (v : UniqueAddress) (for its_nonce : ℕ) → Keeps u m (meeting u v.uid (Some for) (Some its_nonce)) (answered_to v for its_nonce)
-  answered_to_keeps v for its_nonce = record {
-    on = λ d h g. (answered_by_keeps (stream_dialed its_nonce (peer_at v.address d.node)) v for its_nonce
-        (dialed_as its_nonce (peer_at v.address d.node) && is_met (answer_at (stream_dialed its_nonce (peer_at v.address d.node)) d.node v (Some for) (Some its_nonce)))).on d h g;
-  }
-
-  unless_keeps : {p : Premise u} (b : Bool) (v : UniqueAddress) → Keeps u m p (strays_unless b v)
-  unless_keeps true v = stays_keep
-  unless_keeps false v = strays_met v None
-
-  then_keeps : (met : Bool) (v : UniqueAddress) (for its_nonce : Option ℕ) → Keeps u m (meeting u v.uid for its_nonce) (then_ordinary met v for its_nonce)
-  then_keeps met v for its_nonce = record { on = λ d h g. (takes_keep streams.Ordinary v for its_nonce ▹ unless_keeps (met || is_met (answer_at streams.Ordinary d.node v for its_nonce)) v).on d h g }
-
-  plainly_keeps : (v : UniqueAddress) (for its_nonce : Option ℕ) → Keeps u m (meeting u v.uid for its_nonce) (answered_plainly v for its_nonce)
-  plainly_keeps v for its_nonce = record { on = λ d h g. (takes_keep streams.Control v for its_nonce ▹ then_keeps (is_met (answer_at streams.Control d.node v for its_nonce)) v for its_nonce).on d h g }
-
-  pub answered_keeps : (v : UniqueAddress) (for its_nonce : Option ℕ) → Keeps u m (meeting u v.uid for its_nonce) (answered v for its_nonce)
-  answered_keeps v (Some for) (Some its_nonce) = answered_to_keeps v for its_nonce
-  answered_keeps v (Some for) None = plainly_keeps v (Some for) None
-  answered_keeps v None its_nonce = plainly_keeps v None its_nonce
+  pub binds_control_keeps : (v : UniqueAddress) (its_nonce : Option ℕ) → Keeps u m p (binds streams.Control v its_nonce)
+  binds_control_keeps v its_nonce = record { on = λ d h g. (uses_here {p = p} v.address ▹ learns_keep v).on d h g }

@@ -1,7 +1,8 @@
 -- Lists that are searched, counted and changed by name.
-use Rattle.std.proofs.Common.{◌≡◌, ℕ, zero, suc, ◌+◌, ◌≤◌, Bool, true, false, ◌&&◌, cond, List, [], ◌∷◌, ◌++◌, length, map, refl, sym, ◌∙◌, ap, subst, arith}
-use Rattle.std.specs.Prelude.{Option, None, Some, ◌==◌, nat_lt, not, find, filter, remove, position, slice_get, slice_set}
+use Rattle.std.proofs.Common.{◌≡◌, ℕ, zero, suc, ◌+◌, ◌≤◌, Bool, true, false, ◌&&◌, cond, List, [], ◌∷◌, ◌++◌, length, map, refl, sym, ◌∙◌, ap, subst, arith, append_assoc}
+use Rattle.std.specs.Prelude.{Option, None, Some, ◌==◌, nat_lt, not, find, filter, flat_map, remove, position, slice_get, slice_set}
 use Rattle.std.specs.List.{position_or_len}
+use Rattle.artery_base.specs.Words.{IsPrefix}
 use Rattle.artery_machine.specs.Lists.{change_first}
 use Rattle.std.proofs.lemmas.Bool.Decides.{nat_tests}
 
@@ -379,3 +380,17 @@ pub placed : {X : Type 0} (p : X → Bool) (xs : List X) → 1 ≤ count p xs �
 placed p xs h =
     let f : InFront p xs = in_front p xs h in
     record { place = position_or_len p xs; element = f.element; found = ap (λ (b : Bool). cond b (Some (position_or_len p xs)) None) f.within; here = f.here; passes = f.passes }
+
+-- ---- lists behind one another
+
+pub flat_append : {X Y : Type 0} (f : X → List Y) (xs ys : List X) → flat_map f (xs ++ ys) ≡ flat_map f xs ++ flat_map f ys
+flat_append f [] ys = refl
+flat_append f (x ∷ xs) ys = ap (λ zs. f x ++ zs) (flat_append f xs ys) ∙ sym (append_assoc (f x) (flat_map f xs) (flat_map f ys))
+
+pub get_front : {X : Type 0} (xs ys : List X) (i : ℕ) (x : X) → IsPrefix xs ys → slice_get xs i ≡ Some x → slice_get ys i ≡ Some x
+get_front {X} xs ys i x p e = subst (λ zs. slice_get zs i ≡ Some x) p.1 (by xs i e)
+  where
+    by : (zs : List X) (j : ℕ) → slice_get zs j ≡ Some x → slice_get (zs ++ p.0) j ≡ Some x
+    by [] j h = not_some h
+    by (z ∷ zs) zero h = h
+    by (z ∷ zs) (suc j) h = by zs j h

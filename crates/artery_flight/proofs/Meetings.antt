@@ -23,7 +23,8 @@ use Rattle.artery_flight.proofs.Facts.{Network, Conn, AllRead, Reaches, ComesFro
 use Rattle.artery_flight.proofs.Grow.{one_placed, one_here}
 use Rattle.artery_flight.proofs.Rules.{bytes_in, conn_facts_of}
 use Rattle.artery_flight.proofs.Feeding.{nothing_left, IsHeard}
-use Rattle.artery_flight.proofs.Networks.{LiveFacts, Holds, run_holds}
+use Rattle.artery_flight.proofs.Networks.{LiveFacts, Holds}
+use Rattle.artery_flight.proofs.Playing.{run_holds}
 
 reaches_there : (u d f : ℕ) (cs : List Conn) → Reaches u d f cs → ReachesThere cs u d f
 reaches_there u d f cs o =
@@ -63,7 +64,7 @@ were_delivered u k bytes cs o =
       had = sym (append-nil bytes) ∙ one_here (is_inward u k) _ cs o;
     }
 
-all_read : (cs : List Conn) → AreReadBack cs → AllRead cs
+pub all_read : (cs : List Conn) → AreReadBack cs → AllRead cs
 all_read cs r = each_of (λ (c : Conn). Each (λ (x : Wrote). IsReadBack c.dialer x.writing) c.way.all) cs (λ i c e. each_of (λ (x : Wrote). IsReadBack c.dialer x.writing) c.way.all (λ j x f. r i j c x e f))
 
 module _ (script : List ScriptLine) where

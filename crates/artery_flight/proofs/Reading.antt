@@ -1,7 +1,7 @@
 -- What a frame says to the node that hears it, where the frames on its connection are read back.
-use Rattle.std.proofs.Common.{◌≡◌, ℕ, zero, suc, Bool, true, false, ◌&&◌, cond, List, [], ◌∷◌, ◌++◌, Result, Ok, Err, refl, sym, ◌∙◌, ap, subst}
-use Rattle.std.specs.Prelude.{Option, Some, not, is_some, ◌||◌, slice_get}
-use Rattle.artery_base.specs.Words.{IsPrefix, ◌>>=◌}
+use Rattle.std.proofs.Common.{◌≡◌, ℕ, Bool, true, false, ◌&&◌, cond, List, [], ◌∷◌, Result, Ok, Err, refl, sym, ◌∙◌, ap, subst}
+use Rattle.std.specs.Prelude.{◌==◌, Option, Some, not, is_some, ◌||◌, slice_get}
+use Rattle.artery_base.specs.Words.{◌>>=◌}
 use Rattle.artery_base.specs.declared.address.Address.{Address}
 use Rattle.artery_base.specs.declared.address.UniqueAddress.{UniqueAddress}
 use Rattle.artery_codec.specs.declared.message.DropRule.{DropRule as CodecRule}
@@ -14,20 +14,30 @@ use Rattle.artery_control_frame.specs.ControlFrame.{control_envelope}
 use Rattle.artery_frame.specs.declared.stream.Stream.{Stream}
 use Rattle.artery_handshake.specs.declared.in_conn.InState.{InState}
 use Rattle.artery_header.specs.declared.envelope.Which.TheVariants.{Sender, Recipient, Manifest}
-use Rattle.artery_header.specs.Envelope.{EnvelopeOf}
+use Rattle.artery_header.specs.Envelope.{EnvelopeOf, read_of}
 use Rattle.artery_journal.specs.declared.rule.Rule.{Rule}
 use Rattle.artery_journal.specs.declared.rule.Rule.TheVariants as rules
 use Rattle.artery_machine.specs.Deeds.{Writing, Begins, Controls, Sends}
 use Rattle.artery_machine.specs.Parts.{whole}
 use Rattle.artery_machine.specs.Ways.{Wrote}
 use Rattle.artery_machine.specs.Connections.{is_inward}
-use Rattle.artery_machine.specs.Node.{Node, Inbound, speaker_in}
-use Rattle.artery_machine.specs.Verdict.{Content, Controls as SaysControl, Ordinary as SaysOrdinary, Dropped, OfClosed, Says, is_control_serializer, belongs, content_of, control_read, is_handshake, is_uid_of, unless_dropped, meaning_or_rule, meant, said_by, tables_for, envelope_said, read_said, content_in, judged, is_shut, verdict}
+use Rattle.artery_machine.specs.Node.{same_unique, Node, Inbound, speaker_in}
+use Rattle.artery_machine.specs.Verdict.{is_from, is_the_known, agrees_with, Content, Controls as SaysControl, Ordinary as SaysOrdinary, Dropped, OfClosed, Says, is_control_serializer, belongs, content_of, control_read, is_handshake, is_uid_of, unless_dropped, meaning_or_rule, meant, said_by, tables_for, envelope_said, read_said, content_in, judged, is_shut, verdict}
 use Rattle.artery_flight.specs.Flight.{is_frame, frame_of}
 use Rattle.artery_flight.specs.Answers.{IsReadBack}
-use Rattle.artery_flight.proofs.Lists.{not_both, not_some, Each, each_get}
+use Rattle.artery_base.specs.declared.message.SysMsg.{SysMsg}
+use Rattle.std.specs.Cmp.Rules.{comparing}
+use Rattle.std.proofs.Common.{rules}
+use Rattle.artery_header.specs.declared.fault.HeaderFault.{HeaderFault}
+use Rattle.artery_handshake.specs.declared.in_conn.InState.TheVariants.{Known}
+use Rattle.artery_machine.specs.declared.world.Outcome.{Outcome}
+use Rattle.artery_flight.proofs.Lines.{IsOwn, IsNamed, IsAmong, sent_in}
+use Rattle.artery_flight.proofs.Lists.{get_front, eq_true, and_left, Placed, not_both, Each, each_get}
 use Rattle.artery_flight.proofs.Facts.{Conn, Grow, inward_same, AllRead, TheOne, ComesFrom, IsAnswerFor, IsTrue, ConnFacts}
-use Rattle.artery_flight.proofs.Grow.{one_weaker, one_grow, one_both, one_here}
+use Rattle.artery_flight.proofs.Grow.{one_weaker, one_grow, one_both, one_here, one_placed}
+
+unique_is : (a b : UniqueAddress) → same_unique a b ≡ true → a ≡ b
+unique_is a b h = search (comparing, rules)
 
 -- ---- answers one after the other
 
@@ -46,16 +56,21 @@ unless_ok : {X : Type 0} (b : Bool) (rule : Rule) (x y : X) → unless_dropped b
 unless_ok true rule x y h = ok_same (unless_dropped true rule x) refl h
 unless_ok false rule x y h = not_ok (unless_dropped false rule x) refl h
 
+unless_true : {X : Type 0} (b : Bool) (rule : Rule) (x y : X) → unless_dropped b rule x ≡ Ok y → b ≡ true
+unless_true true rule x y h = refl
+unless_true false rule x y h = not_ok (unless_dropped false rule x) refl h
+
 -- ---- what an envelope says
 
-said_content : (state : InState) (stream : Option Stream) (e : EnvelopeOf) (meaning : Result Meaning Rule) (content : Content) → said_by state stream e meaning ≡ Ok content → (m : Meaning) × (meaning ≡ Ok m) × (content_of e m ≡ Ok content)
+said_content : (state : InState) (stream : Option Stream) (e : EnvelopeOf) (meaning : Result Meaning Rule) (content : Content) → said_by state stream e meaning ≡ Ok content → (m : Meaning) × (meaning ≡ Ok m) × (content_of e m ≡ Ok content) × (is_from e.uid state content ≡ true)
 unfolding said_by
 said_content state stream e meaning content h =
     let a = bind_ok meaning _ content h in
     let b = bind_ok (unless_dropped (belongs stream a.0) rules.Stream a.0) _ content a.2 in
     let c = bind_ok (content_of e a.0) _ content b.2 in
     let d = bind_ok (unless_dropped (is_some (speaker_in state) || is_handshake c.0) rules.NoHandshake c.0) _ content c.2 in
-    (a.0, a.1, c.1 ∙ ap Ok (unless_ok _ rules.From c.0 content d.2))
+    let same : c.0 ≡ content = unless_ok _ rules.From c.0 content d.2 in
+    (a.0, a.1, c.1 ∙ ap Ok same, subst (λ (x : Content). is_from e.uid state x ≡ true) same (unless_true _ rules.From c.0 content d.2))
 
 meaning_ok : (r : Result Meaning CodecRule) (m : Meaning) → meaning_or_rule r ≡ Ok m → r ≡ Ok m
 meaning_ok (Ok x) m h = ap Ok (ok_same (meaning_or_rule (Ok x)) refl h)
@@ -106,13 +121,13 @@ ordinary_said envelope m content other h =
     let f : cond false (control_read (message_of m.manifest m.payload)) (Ok (SaysOrdinary envelope m)) ≡ Ok content = ap (λ (b : Bool). cond b (control_read (message_of m.manifest m.payload)) (Ok (SaysOrdinary envelope m))) (sym other) ∙ e in
     subst (IsSaidBy (Sends envelope)) (ok_same (cond false (control_read (message_of m.manifest m.payload)) (Ok (SaysOrdinary envelope m))) refl f) tt
 
-envelope_ok : (stream : Option Stream) (n : Node whole) (i : Inbound whole) (e : EnvelopeOf) (content : Content) → envelope_said stream n i e ≡ Ok content
-    → (m : Meaning) × (envelope_meaning (whole.entries (tables_for i.state n).refs) (whole.entries (tables_for i.state n).manifests) e ≡ Ok m) × (content_of e m ≡ Ok content)
+pub envelope_ok : (stream : Option Stream) (n : Node whole) (i : Inbound whole) (e : EnvelopeOf) (content : Content) → envelope_said stream n i e ≡ Ok content
+    → (m : Meaning) × (envelope_meaning (whole.entries (tables_for i.state n).refs) (whole.entries (tables_for i.state n).manifests) e ≡ Ok m) × (content_of e m ≡ Ok content) × (is_from e.uid i.state content ≡ true)
 envelope_ok stream n i e content h = by (is_uid_of i.state e.uid) h
   where
     by : (b : Bool) → cond b (said_by i.state stream e (meaning_or_rule (meant whole (tables_for i.state n) e))) (Err rules.Uid) ≡ Ok content
-        → (m : Meaning) × (envelope_meaning (whole.entries (tables_for i.state n).refs) (whole.entries (tables_for i.state n).manifests) e ≡ Ok m) × (content_of e m ≡ Ok content)
-    by true k = (let a = said_content i.state stream e (meaning_or_rule (meant whole (tables_for i.state n) e)) content k in (a.0, meaning_ok (meant whole (tables_for i.state n) e) a.0 a.1, a.2))
+        → (m : Meaning) × (envelope_meaning (whole.entries (tables_for i.state n).refs) (whole.entries (tables_for i.state n).manifests) e ≡ Ok m) × (content_of e m ≡ Ok content) × (is_from e.uid i.state content ≡ true)
+    by true k = (let a = said_content i.state stream e (meaning_or_rule (meant whole (tables_for i.state n) e)) content k in (a.0, meaning_ok (meant whole (tables_for i.state n) e) a.0 a.1, a.2, a.3))
     by false k = not_ok (cond false (said_by i.state stream e (meaning_or_rule (meant whole (tables_for i.state n) e))) (Err rules.Uid)) refl k
 
 pub content_is : (stream : Option Stream) (n : Node whole) (i : Inbound whole) (uid : ℕ) (x : Writing) (content : Content) → is_frame x ≡ true → IsReadBack uid x → content_in stream n i (frame_of uid x) ≡ Ok content → IsSaidBy x content
@@ -126,7 +141,23 @@ content_is stream n i uid (Sends envelope) content f r h =
     let a = envelope_ok stream n i envelope content e in
     ordinary_said envelope a.0 content (ap is_control_serializer (serializer_stays (whole.entries (tables_for i.state n).refs) (whole.entries (tables_for i.state n).manifests) envelope a.0 a.1) ∙ r.2) a.2
 
-judged_says : (b : Bool) (r : Result Content Rule) (content : Content) → judged b r ≡ Says content → r ≡ Ok content
+-- who says that it speaks is the one that is known
+pub speaker_is : (stream : Option Stream) (n : Node whole) (i : Inbound whole) (frame : List ℕ) (k : ℕ) (m : SysMsg) (from who : UniqueAddress) (its_nonce : Option ℕ) → content_in stream n i frame ≡ Ok (SaysControl (controls.Numbered k m from)) → i.state ≡ Known who its_nonce → from ≡ who
+speaker_is stream n i frame k m from who its_nonce h known = by (read_of frame) h
+  where
+    and_right : (b c : Bool) → (b && c) ≡ true → c ≡ true
+    and_right true c e = e
+    and_right false c e = not_both e refl
+
+    by : (r : Result EnvelopeOf HeaderFault) → read_said stream n i r ≡ Ok (SaysControl (controls.Numbered k m from)) → from ≡ who
+    by (Ok e) q =
+        let a = envelope_ok stream n i e (SaysControl (controls.Numbered k m from)) q in
+        let b : is_the_known i.state (Some from) ≡ true = and_right (agrees_with e.uid (Some from.uid)) (is_the_known i.state (Some from)) a.3 in
+        let c : same_unique from who ≡ true = ap (λ (x : InState). is_the_known x (Some from)) (sym known) ∙ b in
+        unique_is from who c
+    by (Err fault) q = not_ok (read_said stream n i (Err fault)) refl q
+
+pub judged_says : (b : Bool) (r : Result Content Rule) (content : Content) → judged b r ≡ Says content → r ≡ Ok content
 judged_says b (Err rule) content h = not_says h
   where
     not_says : {P : Type 0} → Dropped rule ≡ Says content → P
@@ -138,14 +169,6 @@ judged_says b (Ok said) content h = ap Ok (by (b && not (is_handshake said)) h)
     by false k = cc
 
 -- ---- on a connection
-
-pub get_front : {X : Type 0} (xs ys : List X) (i : ℕ) (x : X) → IsPrefix xs ys → slice_get xs i ≡ Some x → slice_get ys i ≡ Some x
-get_front {X} xs ys i x p e = subst (λ zs. slice_get zs i ≡ Some x) p.1 (by xs i e)
-  where
-    by : (zs : List X) (j : ℕ) → slice_get zs j ≡ Some x → slice_get (zs ++ p.0) j ≡ Some x
-    by [] j h = not_some h
-    by (z ∷ zs) zero h = h
-    by (z ∷ zs) (suc j) h = by zs j h
 
 -- A frame is one that was written on a connection.
 pub record HasFrame (c : Conn) (frame : List ℕ) : Type 0 where
@@ -197,3 +220,23 @@ asked_from u k cs from to its_nonce h o = one_weaker (is_inward u k) _ _ cs (λ 
 
 pub answered_from : (u k : ℕ) (cs : List Conn) (from : UniqueAddress) (for_uid its_nonce : Option ℕ) → AllRead cs → Each (ConnFacts cs) cs → Said u k (SaysControl (controls.HandshakeRsp from for_uid its_nonce)) cs → IsAnswerFor from.uid for_uid its_nonce cs
 answered_from u k cs from for_uid its_nonce a h o = (one_here (is_inward u k) _ cs (said_true u k cs (controls.HandshakeRsp from for_uid its_nonce) h o) a).1
+
+-- what was written is what was told
+said_own : (u k : ℕ) (cs : List Conn) (os : List Outcome) (control : Control) → Each (λ (c : Conn). Each (λ (x : Wrote). IsOwn os c.far x.writing) c.way.all) cs → Said u k (SaysControl control) cs → TheOne (is_inward u k) (λ (c : Conn). IsOwn os c.far (Controls control)) cs
+said_own u k cs os control h o = one_weaker (is_inward u k) _ _ cs (λ c t q. (let P : Writing → Type 0 = λ (y : Writing). IsOwn os c.far y in
+    subst P q.1.says (each_get (λ (x : Wrote). IsOwn os c.far x.writing) c.way.all q.1.place q.1.wrote q.0 q.1.here))) (one_both (is_inward u k) (λ (c : Conn). Each (λ (x : Wrote). IsOwn os c.far x.writing) c.way.all) _ cs h o)
+
+pub named_from : (u k : ℕ) (cs : List Conn) (os : List Outcome) (from : UniqueAddress) (for_uid its_nonce : Option ℕ) → Each (λ (c : Conn). Each (λ (x : Wrote). IsOwn os c.far x.writing) c.way.all) cs → Said u k (SaysControl (controls.HandshakeRsp from for_uid its_nonce)) cs
+    → IsNamed from os
+named_from u k cs os from for_uid its_nonce h o = one_here (is_inward u k) _ cs (said_own u k cs os (controls.HandshakeRsp from for_uid its_nonce) h o)
+
+-- A message was told as sent to the incarnation with a UID.
+abbrev pub WasSent : ℕ → UniqueAddress → ℕ → SysMsg → List Outcome → Type 0
+WasSent u v n m os = (t : UniqueAddress) × (t.uid ≡ u) × IsNamed t os × IsAmong (n, m) (sent_in v t os)
+
+pub sent_from : (u k : ℕ) (cs : List Conn) (os : List Outcome) (n : ℕ) (m : SysMsg) (from : UniqueAddress) → Each (λ (c : Conn). Each (λ (x : Wrote). IsOwn os c.far x.writing) c.way.all) cs → Said u k (SaysControl (controls.Numbered n m from)) cs → WasSent u from n m os
+sent_from u k cs os n m from h o =
+    let own : TheOne (is_inward u k) (λ (c : Conn). IsOwn os c.far (Controls (controls.Numbered n m from))) cs = said_own u k cs os (controls.Numbered n m from) h o in
+    let spot : Placed (is_inward u k) cs = one_placed (is_inward u k) _ cs own in
+    let t : IsOwn os spot.element.far (Controls (controls.Numbered n m from)) = one_here (is_inward u k) (λ (c : Conn). IsOwn os c.far (Controls (controls.Numbered n m from))) cs own in
+    (t.0, t.1 ∙ eq_true spot.element.far u (and_left (spot.element.far == u) (spot.element.number == k) spot.passes), t.2, t.3)

@@ -1,13 +1,11 @@
 -- Small rules of a node whose deeds are done outside at once: each keeps the facts.
-use Rattle.std.proofs.Common.{◌≡◌, ℕ, zero, suc, ◌+◌, ◌≤◌, ◌<◌, Bool, true, false, ◌&&◌, cond, List, [], ◌∷◌, ◌++◌, refl, sym, ◌∙◌, ap, subst, arith}
-use Rattle.std.specs.Prelude.{Option, None, Some, ◌==◌, ◌||◌, nat_lt, is_none}
-use Rattle.std.specs.List.{find, list_any}
+use Rattle.std.proofs.Common.{◌≡◌, ℕ, zero, suc, ◌≤◌, ◌<◌, Bool, true, false, ◌&&◌, cond, List, [], ◌∷◌, refl, sym, ◌∙◌, ap, subst, arith}
+use Rattle.std.specs.Prelude.{Option, None, Some, ◌==◌, is_none}
+use Rattle.std.specs.List.{find}
 use Rattle.std.specs.Cmp.Rules.{comparing}
 use Rattle.std.proofs.Common.{rules}
 use Rattle.artery_base.specs.declared.address.Address.{Address}
 use Rattle.artery_base.specs.declared.address.UniqueAddress.{UniqueAddress}
-use Rattle.artery_control.specs.declared.control.Control.{Control}
-use Rattle.artery_control.specs.declared.control.Control.TheVariants as controls
 use Rattle.artery_frame.specs.declared.stream.Stream.{Stream}
 use Rattle.artery_frame.specs.declared.stream.Stream.TheVariants as streams
 use Rattle.artery_handshake.specs.declared.out_conn.OutConn.{OutConn}
@@ -22,20 +20,30 @@ use Rattle.artery_watch.specs.Watcher.{Kept as Watching}
 use Rattle.artery_machine.specs.declared.input.Conn.TheVariants.{Outward}
 use Rattle.artery_machine.specs.declared.link.Link.{Link}
 use Rattle.artery_machine.specs.Lists.{or_else, change_first}
-use Rattle.artery_machine.specs.Deeds.{Writing, Controls, Deed, Writes, Hangs, Tells}
+use Rattle.artery_machine.specs.Deeds.{Writing, Deed, Writes, Hangs, Tells}
 use Rattle.artery_machine.specs.Parts.{whole}
 use Rattle.artery_machine.specs.Ways.{Wrote}
 use Rattle.artery_machine.specs.Connections.{is_dialed}
-use Rattle.artery_machine.specs.Node.{Node, Peer, Inbound, Origin, is_peer, is_number, inbound_at, same_address, has_peer, peer_at, new_peer, conn_of, link_of, with_link, dial_to, bound_dial, dial_to_current, dial_asked, speaking_dial}
-use Rattle.artery_machine.specs.Doing.{Doing, Rule, ◌▸◌, stays, where_true, does, becomes, tells_of, writes_on, hangs_up, peer_becomes, inbound_becomes, origin_becomes, each, times}
-use Rattle.artery_machine.specs.Making.{link_dialing, link_gone, link_lost, with_peer_at, dials_as, dials, last_dial}
-use Rattle.artery_machine.specs.Closing.{control_dial, on_control}
+use Rattle.artery_machine.specs.Node.{Node, Peer, Inbound, Origin, is_peer, is_number, inbound_at, same_address, peer_at, new_peer, conn_of, link_of, with_link}
+use Rattle.artery_machine.specs.Doing.{Doing, Rule, ◌▸◌, stays, where_true, does, becomes, tells_of, hangs_up, peer_becomes, inbound_becomes, origin_becomes, each, times}
+use Rattle.artery_machine.specs.Making.{link_gone, link_lost}
 use Rattle.artery_machine.specs.Handshaking.{change_conn}
-use Rattle.artery_machine.specs.World.{is_pending, going_on, does as does_outside, dials as dials_outside}
+use Rattle.artery_machine.specs.World.{going_on, does as does_outside}
 use Rattle.artery_flight.specs.Flight.{is_frame}
-use Rattle.artery_flight.proofs.Lists.{by_test, on_cond, not_both, eq_true, eq_false, and_left, and_right, find_passes, some_same, not_some, Each, each_weaker, each_find, each_push, each_change, count, count_no, count_yes, count_change, count_none}
-use Rattle.artery_flight.proofs.Facts.{Network, Conn, Grow, AllRead, read_before, Reaches, IsAnswerFor, InboundFacts, IsTrue, IsTrueControl, Out, IsBegun, Speaks, StateFacts, OutConnFacts, PeerFacts, NodeFacts, Later, later_self, later_trans, later_wider, speaks_grow, node_later}
-use Rattle.artery_flight.proofs.Deeds.{outward, only, nobody, Changes, Quietly, IsQuietDeed, deed_quietly, IsNext, MayWrite, writes_changes, dials_later, dials_out}
+use Rattle.artery_flight.proofs.Lists.{on_cond, not_both, eq_true, and_left, and_right, find_passes, Each, each_weaker, each_find, each_change, count, count_change}
+use Rattle.artery_assoc.specs.Peer.{PeerState}
+use Rattle.artery_delivery.specs.Outbound.{State}
+use Rattle.artery_machine.specs.declared.world.Outcome.{Outcome}
+use Rattle.artery_flight.proofs.Lines.{IsPlainLine, IsOwn, IsNamed}
+use Rattle.artery_flight.proofs.Peers.{SentFacts, view, view_at, view_change}
+use Rattle.artery_flight.proofs.Facts.{ConnNamed, Network, Conn, Grow, AllRead, read_before, Reaches, IsAnswerFor, InboundFacts, IsTrue, Out, IsBegun, Speaks, StateFacts, OutConnFacts, PeerFacts, NodeFacts, Later, later_self, later_trans, later_wider, speaks_grow, node_later}
+use Rattle.artery_flight.proofs.Deeds.{outward, only, nobody, Changes, Quietly, IsQuietDeed, deed_quietly, IsNext, MayWrite, writes_changes}
+
+pub address_is : (a b : Address) → same_address a b ≡ true → a ≡ b
+address_is a b h = search (comparing, rules)
+
+pub address_self : (a : Address) → same_address a a ≡ true
+address_self a = search (comparing, rules)
 
 -- ---- keeping
 
@@ -86,6 +94,13 @@ where_read u Q f = record {
   stays = λ w v l h e a. f w.connections v.connections l.conns (h (l.going e) (read_before (only u) w.connections v.connections l.conns a));
 }
 
+-- what is true of the network where all frames are read back
+abbrev pub where_known : (u : ℕ) (Q : Network → Type 0) → ((w v : Network) → Later (only u) w v → Q w → Q v) → Premise u
+where_known u Q f = record {
+  holds = λ w. w.ended ≡ None → AllRead w.connections → Q w;
+  stays = λ w v l h e a. f w v l (h (l.going e) (read_before (only u) w.connections v.connections l.conns a));
+}
+
 -- two at once
 abbrev pub both : (u : ℕ) → Premise u → Premise u → Premise u
 both u p q = record { holds = λ w. p.holds w × q.holds w; stays = λ w v l h. (p.stays w v l h.0, q.stays w v l h.1) }
@@ -134,18 +149,26 @@ plain_facts u n k w s h = record {
   alone = λ a. subst (λ ps. count (is_peer a) ps ≤ 1) (sym s.peers) (h.alone a);
   peers = subst (λ ps. Each (PeerFacts u w.connections) ps) (sym s.peers) h.peers;
   inbound = subst (λ is. Each (InboundFacts u w.connections) is) (sym s.inbound) h.inbound;
+  named = subst (λ (v : UniqueAddress). IsNamed v w.outcomes) (sym s.me) h.named;
+  bound = λ a. subst (λ ps. Each (λ (p : Peer whole). ConnNamed w.outcomes p.incarnations.address p.control.conn) ps) (sym s.peers) (h.bound a);
+  sent = λ a. subst (λ ps. SentFacts k.me w.outcomes (view (or_else (new_peer a) (find (is_peer a) ps)))) (sym s.peers) (subst (λ (v : UniqueAddress). SentFacts v w.outcomes (view_at a n)) (sym s.me) (h.sent a));
 }
 
 -- a peer changes
 pub peers_facts : (u : ℕ) (n : Node whole) (w : Network) (a : Address) (g : Peer whole → Peer whole) → ((p : Peer whole) → (g p).incarnations.address ≡ p.incarnations.address)
-    → ((p : Peer whole) → find (is_peer a) n.peers ≡ Some p → PeerFacts u w.connections p → PeerFacts u w.connections (g p)) → NodeFacts u n w → NodeFacts u (record n { peers = change_first (is_peer a) g n.peers }) w
-peers_facts u n w a g at_same f h = record {
+    → ((p : Peer whole) → find (is_peer a) n.peers ≡ Some p → PeerFacts u w.connections p → PeerFacts u w.connections (g p))
+    → (AllRead w.connections → (p : Peer whole) → find (is_peer a) n.peers ≡ Some p → ConnNamed w.outcomes p.incarnations.address p.control.conn → ConnNamed w.outcomes (g p).incarnations.address (g p).control.conn)
+    → ((p : Peer whole) → find (is_peer a) n.peers ≡ Some p → SentFacts n.me w.outcomes (view p) → SentFacts n.me w.outcomes (view (g p))) → NodeFacts u n w → NodeFacts u (record n { peers = change_first (is_peer a) g n.peers }) w
+peers_facts u n w a g at_same f bound sent h = record {
   me = h.me;
   fresh = h.fresh;
   alone = λ b. (let e : count (is_peer b) (change_first (is_peer a) g n.peers) ≡ count (is_peer b) n.peers = count_change (is_peer b) (is_peer a) g (λ p. ap (λ (x : Address). same_address x b) (at_same p)) n.peers in
       let k : count (is_peer b) n.peers ≤ 1 = h.alone b in omega arith);
   peers = each_change (PeerFacts u w.connections) (is_peer a) g n.peers f h.peers;
   inbound = h.inbound;
+  named = h.named;
+  bound = λ r. each_change (λ (p : Peer whole). ConnNamed w.outcomes p.incarnations.address p.control.conn) (is_peer a) g n.peers (bound r) (h.bound r);
+  sent = λ x. view_change x a g at_same (SentFacts n.me w.outcomes) n.peers (h.sent x) (λ p e t k. sent p e k);
 }
 
 -- a change of an inbound connection that leaves its number and its bytes
@@ -182,19 +205,45 @@ inbound_facts u n w k f g h = record {
   alone = h.alone;
   peers = h.peers;
   inbound = each_change (InboundFacts u w.connections) (is_number k) f n.inbound (λ i e q. g i (find_passes (is_number k) n.inbound i e) q) h.inbound;
+  named = h.named;
+  bound = h.bound;
+  sent = h.sent;
 }
 
--- a change of a peer that leaves its address and its connections
+-- a change of a peer that leaves what is known of its incarnations, the messages to it and its connections
 pub record IsSamePeer (g : Peer whole → Peer whole) : Type 0 where
-  pub address : (p : Peer whole) → (g p).incarnations.address ≡ p.incarnations.address
+  pub incarnations : (p : Peer whole) → (g p).incarnations ≡ p.incarnations
+  pub out : (p : Peer whole) → (g p).out ≡ p.out
   pub control : (p : Peer whole) → (g p).control ≡ p.control
   pub ordinary : (p : Peer whole) → (g p).ordinary ≡ p.ordinary
 
-same_peer_facts : (u : ℕ) (cs : List Conn) (g : Peer whole → Peer whole) → IsSamePeer g → (p : Peer whole) → PeerFacts u cs p → PeerFacts u cs (g p)
+pub same_peer_facts : (u : ℕ) (cs : List Conn) (g : Peer whole → Peer whole) → IsSamePeer g → (p : Peer whole) → PeerFacts u cs p → PeerFacts u cs (g p)
 same_peer_facts u cs g s p h = record {
   control = subst (λ (l : Link). OutConnFacts u cs l.conn) (sym (s.control p)) h.control;
   ordinary = subst (λ (l : Link). OutConnFacts u cs l.conn) (sym (s.ordinary p)) h.ordinary;
 }
+
+pub same_address_of : (g : Peer whole → Peer whole) → IsSamePeer g → (p : Peer whole) → (g p).incarnations.address ≡ p.incarnations.address
+same_address_of g s p = ap (λ (x : PeerState). x.address) (s.incarnations p)
+
+pub same_view : (g : Peer whole → Peer whole) → IsSamePeer g → (p : Peer whole) → view (g p) ≡ view p
+same_view g s p = ap (λ (x : PeerState). record { incarnations = x; out = (g p).out }) (s.incarnations p) ∙ ap (λ (x : State). record { incarnations = p.incarnations; out = x }) (s.out p)
+
+pub same_named : (os : List Outcome) (g : Peer whole → Peer whole) → IsSamePeer g → (p : Peer whole) → ConnNamed os p.incarnations.address p.control.conn → ConnNamed os (g p).incarnations.address (g p).control.conn
+same_named os g s p h = subst (λ (l : Link). ConnNamed os (g p).incarnations.address l.conn) (sym (s.control p)) (subst (λ (a : Address). ConnNamed os a p.control.conn) (sym (same_address_of g s p)) h)
+
+pub link_view : (stream : Stream) (f : Link → Link) (p : Peer whole) → view (with_link stream f p) ≡ view p
+link_view streams.Control f p = refl
+link_view streams.Ordinary f p = refl
+
+pub link_named : (os : List Outcome) (stream : Stream) (f : Link → Link) (p : Peer whole) → (ConnNamed os p.incarnations.address p.control.conn → ConnNamed os p.incarnations.address (f p.control).conn)
+    → ConnNamed os p.incarnations.address p.control.conn → ConnNamed os (with_link stream f p).incarnations.address (with_link stream f p).control.conn
+link_named os streams.Control f p k h = k h
+link_named os streams.Ordinary f p k h = h
+
+-- the sent messages where a link changes
+pub link_sent : (me : UniqueAddress) (os : List Outcome) (stream : Stream) (f : Link → Link) (p : Peer whole) → SentFacts me os (view p) → SentFacts me os (view (with_link stream f p))
+link_sent me os stream f p h = subst (SentFacts me os) (sym (link_view stream f p)) h
 
 pub link_at : (stream : Stream) (f : Link → Link) (p : Peer whole) → (with_link stream f p).incarnations.address ≡ p.incarnations.address
 link_at streams.Control f p = refl
@@ -236,7 +285,7 @@ ticked_facts u cs now c h = by (answer_to_tick now c) c.state h
     by GiveUp s k = k
 
 -- an answer that is meant for a connection of this node is one for it
-meant_reaches : (u : ℕ) (cs : List Conn) (me from dial : ℕ) (for_uid its_nonce : Option ℕ) → is_meant me dial for_uid its_nonce ≡ true → (me ≡ u) × IsAnswerFor from for_uid its_nonce cs → Reaches u dial from cs
+pub meant_reaches : (u : ℕ) (cs : List Conn) (me from dial : ℕ) (for_uid its_nonce : Option ℕ) → is_meant me dial for_uid its_nonce ≡ true → (me ≡ u) × IsAnswerFor from for_uid its_nonce cs → Reaches u dial from cs
 meant_reaches u cs me from dial for_uid its_nonce e t =
     let both : ((t.1.uid == me) && (t.1.nonce == dial)) ≡ true = sym (ap (λ (x : Option ℕ). is_meant me dial x its_nonce) t.1.asked ∙ ap (λ (x : Option ℕ). is_meant me dial (Some t.1.uid) x) t.1.its) ∙ e in
     let a : t.1.uid ≡ u = eq_true t.1.uid me (and_left (t.1.uid == me) (t.1.nonce == dial) both) ∙ t.0 in
@@ -259,12 +308,12 @@ answered_facts u cs me from for_uid its_nonce t c h = by c.state (is_meant me c.
 
 -- ---- deeds
 
-told_kept : (u m : ℕ) (n : Node whole) (w : Network) (deed : Deed) → Good u n w → (w.ended ≡ None → Changes u w (does_outside u m deed w)) → Kept u n w n (going_on (does_outside u m deed) w)
+pub told_kept : (u m : ℕ) (n : Node whole) (w : Network) (deed : Deed) → Good u n w → (w.ended ≡ None → Changes u w (does_outside u m deed w)) → Kept u n w n (going_on (does_outside u m deed) w)
 told_kept u m n w deed g f = on_cond (λ (v : Network). Kept u n w n v) (is_none w.ended) (does_outside u m deed w) w
     (λ t. (let e : w.ended ≡ None = none_is w.ended t in
     let c : Changes u w (does_outside u m deed w) = f e in
     record {
-      good = record { out = c.out; node = λ k. node_later (only u) u n w (does_outside u m deed w) c.later.conns c.pending (g.node e) };
+      good = record { out = c.out; node = λ k. node_later (only u) u n w (does_outside u m deed w) c.later.conns c.later.told (λ y. c.sent n.me y) c.pending (g.node e) };
       later = c.later;
       bytes = λ k. refl;
     }))
@@ -273,11 +322,12 @@ told_kept u m n w deed g f = on_cond (λ (v : Network). Kept u n w n v) (is_none
 pub quiet_kept : (u m : ℕ) (n : Node whole) (w : Network) (deed : Deed) → IsQuietDeed deed → Good u n w → Kept u n w n (going_on (does_outside u m deed) w)
 quiet_kept u m n w deed q g = told_kept u m n w deed g (λ e.
     let s : Quietly w (does_outside u m deed w) = deed_quietly u m deed w q in
-    record { later = later_wider nobody (only u) (λ x k. absurd k) w (does_outside u m deed w) s.later; pending = λ d. s.later.pending u d (λ k. k); out = s.out g.out })
+    record { later = later_wider nobody (only u) (λ x k. absurd k) w (does_outside u m deed w) s.later; pending = λ d. s.later.pending u d (λ k. k); sent = λ x y. s.later.sent x y (λ k. k); out = s.out g.out })
 
 -- what a node that speaks may write
-pub may_say : (u d : ℕ) (cs : List Conn) (x : Writing) → is_frame x ≡ true → ((c : Conn) → is_dialed u d c ≡ true → IsTrue cs c x) → Speaks u d cs → MayWrite u d cs x
-may_say u d cs x f t s = record { next = each_weaker _ _ (λ c k i o. next c.way.all (k i o)) cs s.begun; said = all cs }
+pub may_say : (u d : ℕ) (cs : List Conn) (os : List Outcome) (x : Writing) → is_frame x ≡ true → ((c : Conn) → is_dialed u d c ≡ true → IsTrue cs c x) → (AllRead cs → Each (λ (c : Conn). is_dialed u d c ≡ true → IsOwn os c.far x) cs) → Speaks u d cs
+    → MayWrite u d cs os x
+may_say u d cs os x f t o s = record { next = each_weaker _ _ (λ c k i p. next c.way.all (k i p)) cs s.begun; said = all cs; own = o }
   where
     next : (ws : List Wrote) → IsBegun ws → IsNext ws x
     next [] b = absurd b
@@ -287,7 +337,7 @@ may_say u d cs x f t s = record { next = each_weaker _ _ (λ c k i o. next c.way
     all [] = tt
     all (c ∷ ds) = (t c, all ds)
 
-pub write_kept : (u m d : ℕ) (n : Node whole) (w : Network) (x : Writing) → Good u n w → (w.ended ≡ None → MayWrite u d w.connections x) → Kept u n w n (going_on (does_outside u m (Writes d x)) w)
+pub write_kept : (u m d : ℕ) (n : Node whole) (w : Network) (x : Writing) → Good u n w → (w.ended ≡ None → MayWrite u d w.connections w.outcomes x) → Kept u n w n (going_on (does_outside u m (Writes d x)) w)
 write_kept u m d n w x g may = told_kept u m n w (Writes d x) g (λ e. writes_changes u m d x w g.out (may e))
 
 -- ---- rules
@@ -299,8 +349,8 @@ module _ {u m : ℕ} {p : Premise u} where
   pub quiet_keeps : (deed : Deed) → IsQuietDeed deed → Keeps u m p (does deed)
   quiet_keeps deed q = record { on = λ d h g. quiet_kept u m d.node d.deeds deed q g }
 
-  pub tells_keep : (line : UniqueAddress → Line) → Keeps u m p (tells_of line)
-  tells_keep line = record { on = λ d h g. quiet_kept u m d.node d.deeds (Tells (line d.node.me)) tt g }
+  pub tells_keep : (line : UniqueAddress → Line) → ((me : UniqueAddress) → IsPlainLine (line me)) → Keeps u m p (tells_of line)
+  tells_keep line s = record { on = λ d h g. quiet_kept u m d.node d.deeds (Tells (line d.node.me)) (s d.node.me) g }
 
   pub hangs_keep : (x : Option ℕ) → Keeps u m p (hangs_up x)
   hangs_keep None = stays_keep
@@ -323,19 +373,25 @@ module _ {u m : ℕ} {p : Premise u} where
 
   pub peer_keep : (a : Address) (f : Peer whole → Peer whole) → IsSamePeer f → Keeps u m p (peer_becomes a f)
   peer_keep a f s = record {
-    on = λ d h g. kept_node u d.node _ d.deeds g (λ j. refl) (λ live. peers_facts u d.node d.deeds a f s.address (λ q e k. same_peer_facts u d.deeds.connections f s q k));
+    on = λ d h g. kept_node u d.node _ d.deeds g (λ j. refl) (λ live. peers_facts u d.node d.deeds a f (same_address_of f s) (λ q e k. same_peer_facts u d.deeds.connections f s q k) (λ r q e k. same_named d.deeds.outcomes f s q k)
+        (λ q e k. subst (SentFacts d.node.me d.deeds.outcomes) (sym (same_view f s q)) k));
   }
 
-  pub link_keeps : (stream : Stream) (a : Address) (f : Link → Link) → ((w : Network) → p.holds w → w.ended ≡ None → (l : Link) → OutConnFacts u w.connections l.conn → OutConnFacts u w.connections (f l).conn) → Keeps u m p (peer_becomes a (with_link stream f))
-  link_keeps stream a f k = record {
-    on = λ d h g. kept_node u d.node _ d.deeds g (λ j. refl) (λ live. peers_facts u d.node d.deeds a (with_link stream f) (link_at stream f) (λ q e t. link_facts u d.deeds.connections stream f q (k d.deeds h live (link_of stream q)) t));
+  pub link_keeps : (stream : Stream) (a : Address) (f : Link → Link) → ((w : Network) → p.holds w → w.ended ≡ None → (l : Link) → OutConnFacts u w.connections l.conn → OutConnFacts u w.connections (f l).conn)
+      → ((w : Network) → p.holds w → w.ended ≡ None → AllRead w.connections → (l : Link) → ConnNamed w.outcomes a l.conn → ConnNamed w.outcomes a (f l).conn) → Keeps u m p (peer_becomes a (with_link stream f))
+  link_keeps stream a f k b = record {
+    on = λ d h g. kept_node u d.node _ d.deeds g (λ j. refl) (λ live. peers_facts u d.node d.deeds a (with_link stream f) (link_at stream f) (λ q e t. link_facts u d.deeds.connections stream f q (k d.deeds h live (link_of stream q)) t)
+        (λ r q e t. link_named d.deeds.outcomes stream f q (λ x. (let same : q.incarnations.address ≡ a = address_is q.incarnations.address a (find_passes (is_peer a) d.node.peers q e) in
+        let P : Address → Type 0 = λ (y : Address). ConnNamed d.deeds.outcomes y (f q.control).conn in
+        subst P (sym same) (b d.deeds h live r q.control (subst (λ (y : Address). ConnNamed d.deeds.outcomes y q.control.conn) same x)))) t)
+        (λ q e t. link_sent d.node.me d.deeds.outcomes stream f q t));
   }
 
   pub gone_keeps : (stream : Stream) (a : Address) → Keeps u m p (peer_becomes a (with_link stream link_gone))
-  gone_keeps stream a = link_keeps stream a link_gone (λ w t e l h. tt)
+  gone_keeps stream a = link_keeps stream a link_gone (λ w t e l h. tt) (λ w t e r l h. tt)
 
   pub lost_keeps : (stream : Stream) (a : Address) (now : ℕ) → Keeps u m p (peer_becomes a (with_link stream (link_lost now)))
-  lost_keeps stream a now = link_keeps stream a (link_lost now) (λ w t e l h. tt)
+  lost_keeps stream a now = link_keeps stream a (link_lost now) (λ w t e l h. tt) (λ w t e r l h. tt)
 
   pub if_keeps : (b : Bool) (r s : Rule whole (outward u m)) → Keeps u m p r → Keeps u m p s → Keeps u m p (cond b r s)
   if_keeps true r s x y = x
@@ -352,155 +408,3 @@ module _ {u m : ℕ} {p : Premise u} where
   pub times_keep : (k : ℕ) (r : Rule whole (outward u m)) → Keeps u m p r → Keeps u m p (times k r)
   times_keep zero r a = stays_keep
   times_keep (suc k) r a = a ▹ times_keep k r a
-
--- ---- control messages
-
--- A message that says nothing of the handshake.
-abbrev pub IsOther : Control → Type 0
-IsOther (controls.HandshakeReq from to its_nonce) = ⊥
-IsOther (controls.HandshakeRsp from for_uid its_nonce) = ⊥
-IsOther _ = Unit {0}
-
-pub other_true : (cs : List Conn) (c : Conn) (x : Control) → IsOther x → IsTrueControl cs c x
-other_true cs c (controls.HandshakeReq from to its_nonce) h = absurd h
-other_true cs c (controls.HandshakeRsp from for_uid its_nonce) h = absurd h
-other_true cs c (controls.Quarantined from to) h = tt
-other_true cs c (controls.Terminating from) h = tt
-other_true cs c (controls.TerminatingAck from) h = tt
-other_true cs c (controls.RefsTable from origin_uid version keys values sequence) h = tt
-other_true cs c (controls.RefsAck from version sequence) h = tt
-other_true cs c (controls.ManifestsTable from origin_uid version keys values sequence) h = tt
-other_true cs c (controls.ManifestsAck from version sequence) h = tt
-other_true cs c (controls.Numbered n message reply_to) h = tt
-other_true cs c (controls.Ack n from) h = tt
-other_true cs c (controls.Nack n from) h = tt
-other_true cs c controls.Heartbeat h = tt
-other_true cs c (controls.HeartbeatRsp uid) h = tt
-
--- the connection that is bound to a UID speaks
-pub bound_speaks : (u : ℕ) (cs : List Conn) (uid : ℕ) (c : Option OutConn) (x : ℕ) → OutConnFacts u cs c → dial_to uid c ≡ Some x → Speaks u x cs
-bound_speaks u cs uid None x h e = not_some e
-bound_speaks u cs uid (Some c) x h e = by c.state h e
-  where
-    by : (s : OutState) → StateFacts u cs c.dial s → bound_dial uid c.dial s ≡ Some x → Speaks u x cs
-    by Dialing k f = not_some f
-    by (Asked begun last) k f = not_some f
-    by (Bound bound) k f = at_test (bound == uid) f
-      where
-        at_test : (b : Bool) → cond b (Some c.dial) None ≡ Some x → Speaks u x cs
-        at_test true g = subst (λ (y : ℕ). Speaks u y cs) (some_same g) k.0
-        at_test false g = not_some g
-
-pub current_speaks : (u : ℕ) (cs : List Conn) (uid : Option ℕ) (c : Option OutConn) (x : ℕ) → OutConnFacts u cs c → dial_to_current uid c ≡ Some x → Speaks u x cs
-current_speaks u cs None c x h e = not_some e
-current_speaks u cs (Some uid) c x h e = bound_speaks u cs uid c x h e
-
-pub asked_speaks : (u : ℕ) (cs : List Conn) (c : Option OutConn) (x : ℕ) → OutConnFacts u cs c → dial_asked c ≡ Some x → Speaks u x cs
-asked_speaks u cs None x h e = not_some e
-asked_speaks u cs (Some c) x h e = by c.state h e
-  where
-    by : (s : OutState) → StateFacts u cs c.dial s → speaking_dial c.dial s ≡ Some x → Speaks u x cs
-    by Dialing k f = not_some f
-    by (Asked begun last) k f = subst (λ (y : ℕ). Speaks u y cs) (some_same f) k
-    by (Bound uid) k f = subst (λ (y : ℕ). Speaks u y cs) (some_same f) k.0
-
--- something is written on a connection that may be there
-pub writes_on_kept : (u m : ℕ) (d : Work u m) (x : Option ℕ) (y : Writing) → Good u d.node d.deeds → ((i : ℕ) → x ≡ Some i → d.deeds.ended ≡ None → MayWrite u i d.deeds.connections y) → Kept u d.node d.deeds (writes_on x y d).node (writes_on x y d).deeds
-writes_on_kept u m d None y g f = kept_self u d.node d.deeds g
-writes_on_kept u m d (Some i) y g f = write_kept u m i d.node d.deeds y g (f i refl)
-
-pub on_control_keeps : {u m : ℕ} {p : Premise u} (v : UniqueAddress) (x : Control) → IsOther x → Keeps u m p (on_control v x)
-on_control_keeps {u} {m} v x o = record {
-  on = λ d h g. writes_on_kept u m d (control_dial v d.node) (Controls x) g (λ i e live.
-      may_say u i d.deeds.connections (Controls x) refl (λ c k. other_true d.deeds.connections c x o)
-      (bound_speaks u d.deeds.connections v.uid (conn_of streams.Control (peer_at v.address d.node)) i (peer_facts_at u d.node d.deeds v.address (g.node live)).control e));
-}
-
--- ---- dials
-
-dialed_facts : (u : ℕ) (stream : Stream) (a : Address) (n : Node whole) (w : Network) → NodeFacts u n w → NodeFacts u (record n { dials = n.dials + 1; peers = change_first (is_peer a) (with_link stream (link_dialing stream (n.dials + 1))) n.peers }) (dials_outside u (n.dials + 1) a w)
-dialed_facts u stream a n w h =
-    let x : ℕ = n.dials + 1 in
-    let k : NodeFacts u (record n { peers = change_first (is_peer a) (with_link stream (link_dialing stream x)) n.peers }) w =
-    peers_facts u n w a (with_link stream (link_dialing stream x)) (link_at stream (link_dialing stream x)) (λ q e t. link_facts u w.connections stream (link_dialing stream x) q (λ s. tt) t) h in
-    record {
-      me = k.me;
-      fresh = λ d b. (let y : n.dials + 1 < d = b in
-          let z : n.dials < d = omega arith in
-          let f = h.fresh d z in
-          record {
-            pending = count_no (is_pending u d) w.pending (record { dialer = u; dial = x; address = a }) (ap (λ (c : Bool). (u == u) && c) (eq_false x d (λ i. (let j : n.dials + 1 ≡ d = i in omega arith))) ∙ and_false (u == u)) ∙ f.pending;
-            made = f.made;
-          });
-      alone = k.alone;
-      peers = k.peers;
-      inbound = k.inbound;
-    }
-  where
-    and_false : (b : Bool) → (b && false) ≡ false
-    and_false true = refl
-    and_false false = refl
-
-pub dials_as_keeps : {u m : ℕ} (stream : Stream) (a : Address) (d : Work u m) → Good u d.node d.deeds → Kept u d.node d.deeds (dials_as stream a (d.node.dials + 1) d).node (dials_as stream a (d.node.dials + 1) d).deeds
-dials_as_keeps {u} {m} stream a d g = on_cond (λ (v : Network). Kept u d.node w k v) (is_none w.ended) (dials_outside u x a w) w
-    (λ t. (let e : w.ended ≡ None = none_is w.ended t in
-    let f : NodeFacts u d.node w = g.node e in
-    record {
-      good = record { out = dials_out u x a w (f.fresh x (omega arith)) g.out; node = λ c. dialed_facts u stream a d.node w f };
-      later = dials_later u x a w;
-      bytes = λ j. refl;
-    }))
-    (λ t. record { good = record { out = g.out; node = λ e. none_not w.ended t e }; later = later_self (only u) w; bytes = λ j. refl })
-  where
-    w : Network
-    w = d.deeds
-
-    x : ℕ
-    x = d.node.dials + 1
-
-    k : Node whole
-    k = record d.node { dials = x; peers = change_first (is_peer a) (with_link stream (link_dialing stream x)) d.node.peers }
-
-module _ {u m : ℕ} {p : Premise u} where
-  pub dials_keep : (stream : Stream) (a : Address) → Keeps u m p (dials stream a)
-  dials_keep stream a = record {
-    on = λ d h g. on_cond (λ (r : Rule whole (outward u m)). Kept u d.node d.deeds (r d).node (r d).deeds) (nat_lt d.node.dials last_dial) (dials_as stream a (d.node.dials + 1)) stays
-        (λ t. dials_as_keeps stream a d g) (λ t. kept_self u d.node d.deeds g);
-  }
-
--- ---- a peer is made
-
-address_is : (a b : Address) → same_address a b ≡ true → a ≡ b
-address_is a b h = search (comparing, rules)
-
-pub address_self : (a : Address) → same_address a a ≡ true
-address_self a = search (comparing, rules)
-
-or_left : (a b : Bool) → (a || b) ≡ false → a ≡ false
-or_left true b h = h
-or_left false b h = refl
-
-or_right : (a b : Bool) → (a || b) ≡ false → b ≡ false
-or_right true b h = not_both refl h
-or_right false b h = h
-
-nobody_there : (a : Address) (ps : List (Peer whole)) → list_any (is_peer a) ps ≡ false → count (is_peer a) ps ≡ 0
-nobody_there a ps h = count_none (is_peer a) ps (by ps h)
-  where
-    by : (qs : List (Peer whole)) → list_any (is_peer a) qs ≡ false → Each (λ q. is_peer a q ≡ false) qs
-    by [] k = tt
-    by (q ∷ qs) k = (or_left (is_peer a q) _ k, by qs (or_right (is_peer a q) _ k))
-
-pub made_facts : (u : ℕ) (a : Address) (n : Node whole) (w : Network) → has_peer a n ≡ false → NodeFacts u n w → NodeFacts u (with_peer_at a n) w
-made_facts u a n w none h = record {
-  me = h.me;
-  fresh = h.fresh;
-  alone = λ b. by_test (same_address a b)
-      (λ t. (let e : a ≡ b = address_is a b t in
-      let k : count (is_peer b) n.peers ≡ 0 = nobody_there b n.peers (subst (λ (x : Address). list_any (is_peer x) n.peers ≡ false) e none) in
-      let c : count (is_peer b) (n.peers ++ new_peer a ∷ []) ≡ count (is_peer b) n.peers + 1 = count_yes (is_peer b) n.peers (new_peer a) t in omega arith))
-      (λ t. (let c : count (is_peer b) (n.peers ++ new_peer a ∷ []) ≡ count (is_peer b) n.peers = count_no (is_peer b) n.peers (new_peer a) t in
-      let k : count (is_peer b) n.peers ≤ 1 = h.alone b in omega arith));
-  peers = each_push (PeerFacts u w.connections) n.peers (new_peer a) h.peers (record { control = tt; ordinary = tt });
-  inbound = h.inbound;
-}

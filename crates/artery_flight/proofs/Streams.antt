@@ -22,10 +22,6 @@ take_front zero xs ys h = refl
 take_front (suc n) [] ys h = absurd (let c : ⊥ = (let e : suc n ≤ 0 = h in omega arith) in c)
 take_front (suc n) (x ∷ xs) ys h = ap (λ zs. x ∷ zs) (take_front n xs ys (let e : suc n ≤ suc (length xs) = h in omega arith))
 
-pub flat_append : {X Y : Type 0} (f : X → List Y) (xs ys : List X) → flat_map f (xs ++ ys) ≡ flat_map f xs ++ flat_map f ys
-flat_append f [] ys = refl
-flat_append f (x ∷ xs) ys = ap (λ zs. f x ++ zs) (flat_append f xs ys) ∙ sym (append_assoc (f x) (flat_map f xs) (flat_map f ys))
-
 pub each_drop : {X : Type 0} (P : X → Type 0) (n : ℕ) (xs : List X) → Each P xs → Each P (drop n xs)
 each_drop P zero xs h = h
 each_drop P (suc n) [] h = tt

@@ -15,7 +15,7 @@ use Rattle.artery_handshake.specs.declared.out_conn.OutState.{OutState}
 use Rattle.artery_handshake.specs.declared.out_conn.OutState.TheVariants.{Dialing, Asked, Bound}
 use Rattle.artery_handshake.specs.declared.out_conn.OnTick.{OnTick}
 use Rattle.artery_handshake.specs.declared.out_conn.OnTick.TheVariants.{Nothing, AskAgain, GiveUp}
-use Rattle.artery_handshake.specs.Outgoing.{answer_to_tick, due_in, conn_ticked}
+use Rattle.artery_handshake.specs.Outgoing.{state_after_tick, answer_to_tick, due_in, conn_ticked}
 use Rattle.artery_journal.specs.declared.line.Line.{Line}
 use Rattle.artery_journal.specs.declared.line.Line.TheVariants as lines
 use Rattle.artery_journal.specs.declared.rule.Rule.{Rule as DropRule}
@@ -46,11 +46,19 @@ use Rattle.artery_machine.specs.Lists.{change_first}
 use Rattle.artery_flight.proofs.Lists.{by_test, on_cond, not_some, eq_true, eq_not, Each, each_filter, each_change}
 use Rattle.artery_flight.proofs.Reading.{Framed}
 use Rattle.artery_flight.proofs.Inward.{FromNothing, BytesFrom, Reacted, other_bytes, set_bytes, left_bytes, put_facts, put_bytes}
-use Rattle.artery_flight.proofs.Facts.{Network, Conn, AllRead, InboundFacts, NodeFacts, Later, later_self, later_trans, Speaks, IsSilent, StateFacts, OutConnFacts}
+use Rattle.artery_flight.proofs.Facts.{ConnNamed, Network, Conn, AllRead, InboundFacts, NodeFacts, Later, later_self, later_trans, Speaks, IsSilent, StateFacts, OutConnFacts}
 use Rattle.artery_flight.proofs.Deeds.{outward, only}
-use Rattle.artery_flight.proofs.Rules.{bytes_in, bytes_at, Good, Kept, Premise, Work, Keeps, always, speaking, kept_self, ◌▹◌, IsSamePeer, IsOther, on_control_keeps, changed_conn, ticked_facts, peer_facts_at, conn_facts_of}
+use Rattle.artery_flight.proofs.Lines.{IsPlainLine}
+use Rattle.artery_flight.proofs.Peers.{View, view_at}
+use Rattle.artery_flight.proofs.Telling.{same_peer_view}
+use Rattle.artery_machine.specs.declared.link.Link.{Link}
+use Rattle.artery_machine.specs.declared.world.Outcome.{Outcome}
+use Rattle.artery_flight.proofs.Rules.{kept_then, bytes_in, bytes_at, Good, Kept, Premise, Work, Keeps, always, speaking, kept_self, ◌▹◌, IsSamePeer, changed_conn, ticked_facts, peer_facts_at, conn_facts_of}
+use Rattle.artery_flight.proofs.Controlling.{IsOther, on_control_keeps}
 use Rattle.artery_flight.proofs.Rules as small
+use Rattle.artery_flight.proofs.Controlling as small_controlling
 use Rattle.artery_flight.proofs.Sending as sent
+use Rattle.artery_flight.proofs.Watching as sent_watching
 use Rattle.artery_flight.proofs.Handshaking as shaking
 use Rattle.artery_flight.proofs.Hearing as heard
 
@@ -69,22 +77,43 @@ again_speaks u cs now c h e = by c.state h e
     by (Asked begun last) k f = k
     by (Bound uid) k f = k.0
 
+ticked_named : (os : List Outcome) (a : Address) (now : ℕ) (l : Link) → ConnNamed os a l.conn → ConnNamed os a (change_conn (conn_ticked now) l).conn
+ticked_named os a now l h = by l.conn h
+  where
+    by : (c : Option OutConn) → ConnNamed os a c → ConnNamed os a (change_conn (conn_ticked now) (record l { conn = c })).conn
+    by None k = tt
+    by (Some c) k = λ uid e. k uid (at_state (answer_to_tick now c) c.state uid e)
+      where
+        not_bound : {P : Type 0} {x y uid : ℕ} → Asked x y ≡ Bound uid → P
+        not_bound e = cc
+
+        at_state : (x : OnTick) (s : OutState) (uid : ℕ) → state_after_tick x now s ≡ Bound uid → s ≡ Bound uid
+        at_state Nothing s uid e = e
+        at_state GiveUp s uid e = e
+        at_state AskAgain Dialing uid e = e
+        at_state AskAgain (Asked begun last) uid e = not_bound e
+        at_state AskAgain (Bound bound) uid e = e
+
 ticked_here : {u t x : ℕ} (stream : Stream) (a : Address) (now : ℕ) → Keeps u t (speaking u x) (peer_becomes a (with_link stream (change_conn (conn_ticked now))) ▸ asks_on a x)
 ticked_here {u} stream a now =
-    small.link_keeps stream a (change_conn (conn_ticked now)) (λ w h e l q. changed_conn u w.connections (conn_ticked now) (ticked_facts u w.connections now) l q) ▹ shaking.asks_on_keeps a
+    small.link_keeps stream a (change_conn (conn_ticked now)) (λ w h e l q. changed_conn u w.connections (conn_ticked now) (ticked_facts u w.connections now) l q) (λ w h e r l q. ticked_named w.outcomes a now l q) ▹ shaking.asks_on_keeps a
+
+-- a premise holds
+record Given {u : ℕ} (p : Premise u) (w : Network) : Type 0 where
+  holds : p.holds w
 
 module _ {u t : ℕ} {p : Premise u} where
   stays_here : Keeps u t p stays
   stays_here = small.stays_keep
 
-  tells_here : (line : UniqueAddress → Line) → Keeps u t p (tells_of line)
-  tells_here line = small.tells_keep line
+  tells_here : (line : UniqueAddress → Line) → ((me : UniqueAddress) → IsPlainLine (line me)) → Keeps u t p (tells_of line)
+  tells_here line s = small.tells_keep line s
 
   hangs_here : (x : Option ℕ) → Keeps u t p (hangs_up x)
   hangs_here x = small.hangs_keep x
 
   dials_here : (stream : Stream) (a : Address) → Keeps u t p (dials stream a)
-  dials_here stream a = small.dials_keep stream a
+  dials_here stream a = small_controlling.dials_keep stream a
 
   gone_here : (stream : Stream) (a : Address) → Keeps u t p (peer_becomes a (with_link stream link_gone))
   gone_here stream a = small.gone_keeps stream a
@@ -113,8 +142,8 @@ module _ {u t : ℕ} {p : Premise u} where
   gives_up_here : (stream : Stream) (a : Address) → Keeps u t p (gives_up stream a)
   gives_up_here stream a = shaking.gives_up_keeps stream a
 
-  closes_here : (a : Address) (x : Cause) (uid : Option ℕ) → Keeps u t p (closes_current a x uid stays)
-  closes_here a x uid = sent.closes_current_keeps a x uid stays stays_here
+  closing_here : (a : Address) (x : Cause) → Keeps u t p (λ d. closes_current a x (current_of (peer_at a d.node)) stays d)
+  closing_here a x = sent.closing_keeps a x stays stays_here
 
   drops_ordinary_here : (a : Address) → Keeps u t p (drops_ordinary a)
   drops_ordinary_here a = sent.drops_ordinary_keeps a
@@ -160,7 +189,10 @@ module _ {u t : ℕ} {p : Premise u} where
   -- ---- messages
 
   loses_patience_keeps : (a : Address) → Keeps u t p (loses_patience a)
-  loses_patience_keeps a = record { on = λ d h g. (where_here (is_lost d.node.moment (peer_at a d.node)) _ (closes_here a causes.Undelivered (current_of (peer_at a d.node)))).on d h g }
+  loses_patience_keeps a = record {
+    on = λ d h g. on_cond (λ (r : Rule whole (outward u t)). Kept u d.node d.deeds (r d).node (r d).deeds) (is_lost d.node.moment (peer_at a d.node)) (closes_current a causes.Undelivered (current_of (peer_at a d.node)) stays) stays
+        (λ b. (closing_here a causes.Undelivered).on d h g) (λ b. kept_self u d.node d.deeds g);
+  }
 
   resends_keeps : (a : Address) → Keeps u t p (resends a)
   resends_keeps a = record { on = λ d h g. (where_here (is_quiet d.node.moment (peer_at a d.node)) _ (rewinds_here a ▹ pumps_here a ▹ quiet_here a d.node.moment)).on d h g }
@@ -169,7 +201,7 @@ module _ {u t : ℕ} {p : Premise u} where
 
   beats_on_keep : (v : UniqueAddress) (x : Option ℕ) → Keeps u t p (beats_on v x)
   beats_on_keep v None = record { on = λ d h g. stays_here.on d h g }
-  beats_on_keep v (Some x) = record { on = λ d h g. (control_here v controls.Heartbeat tt ▹ peer_here v.address (beaten_at d.node.moment) (record { address = λ q. refl; control = λ q. refl; ordinary = λ q. refl })).on d h g }
+  beats_on_keep v (Some x) = record { on = λ d h g. (control_here v controls.Heartbeat tt ▹ peer_here v.address (beaten_at d.node.moment) (record { incarnations = λ q. refl; out = λ q. refl; control = λ q. refl; ordinary = λ q. refl })).on d h g }
 
   beats_keep : (v : UniqueAddress) → Keeps u t p (beats v)
   beats_keep v = record { on = λ d h g. (where_here (is_due_since heartbeat_after (peer_at v.address d.node).last_beat d.node.moment) _ written).on d h g }
@@ -177,15 +209,27 @@ module _ {u t : ℕ} {p : Premise u} where
       written : Keeps u t p (λ e. beats_on v (control_dial v e.node) e)
       written = record { on = λ d h g. (beats_on_keep v (control_dial v d.node)).on d h g }
 
-  detects_of_keeps : (a : Address) (uid : ℕ) → Keeps u t p (detects_of a uid)
-  detects_of_keeps a uid = record { on = λ d h g. (if_here (whole.available d.node.moment (peer_at a d.node).beats) _ _ (beats_keep (incarnation a uid)) (closes_here a causes.Unreachable (Some uid))).on d h g }
+  asked_here : (a : Address) (now : ℕ) → Keeps u t p (peer_becomes a (asked_at now))
+  asked_here a now = peer_here a (asked_at now) (record { incarnations = λ q. refl; out = λ q. refl; control = λ q. refl; ordinary = λ q. refl })
 
-  detects_as_keeps : (a : Address) (uid : Option ℕ) → Keeps u t p (detects_as a uid)
-  detects_as_keeps a None = record { on = λ d h g. stays_here.on d h g }
-  detects_as_keeps a (Some uid) = record { on = λ d h g. (peer_here a (asked_at d.node.moment) (record { address = λ q. refl; control = λ q. refl; ordinary = λ q. refl }) ▹ detects_of_keeps a uid).on d h g }
+  -- what is due for the current incarnation
+  detects_of_kept : (a : Address) (uid : ℕ) (d : Work u t) → Given p d.deeds → current_of (peer_at a d.node) ≡ Some uid → Good u d.node d.deeds → Kept u d.node d.deeds (detects_of a uid d).node (detects_of a uid d).deeds
+  detects_of_kept a uid d h now g = on_cond (λ (r : Rule whole (outward u t)). Kept u d.node d.deeds (r d).node (r d).deeds) (whole.available d.node.moment (peer_at a d.node).beats) (beats (incarnation a uid)) (closes_current a causes.Unreachable (Some uid) stays)
+      (λ b. (beats_keep (incarnation a uid)).on d h.holds g) (λ b. sent.closes_kept p a causes.Unreachable uid d h.holds now g)
+
+  detects_as_kept : (a : Address) (o : Option ℕ) (d : Work u t) → Given p d.deeds → current_of (peer_at a d.node) ≡ o → Good u d.node d.deeds → Kept u d.node d.deeds (detects_as a o d).node (detects_as a o d).deeds
+  detects_as_kept a None d h now g = kept_self u d.node d.deeds g
+  detects_as_kept a (Some uid) d h now g =
+      let d1 : Work u t = peer_becomes a (asked_at d.node.moment) d in
+      let k1 : Kept u d.node d.deeds d1.node d1.deeds = (asked_here a d.node.moment).on d h.holds g in
+      let same : view_at a d1.node ≡ view_at a d.node = same_peer_view a a (asked_at d.node.moment) (record { incarnations = λ q. refl; out = λ q. refl; control = λ q. refl; ordinary = λ q. refl }) d.node in
+      kept_then u d.node d.deeds d1.deeds (detects_of a uid d1).deeds d1.node (detects_of a uid d1).node k1 (detects_of_kept a uid d1 (record { holds = h.holds }) (ap (λ (x : View). x.incarnations.current) same ∙ now) k1.good)
 
   detects_keep : (a : Address) → Keeps u t p (detects a)
-  detects_keep a = record { on = λ d h g. (where_here (watches_at a d.node) _ (detects_as_keeps a (current_of (peer_at a d.node)))).on d h g }
+  detects_keep a = record {
+    on = λ d h g. on_cond (λ (r : Rule whole (outward u t)). Kept u d.node d.deeds (r d).node (r d).deeds) (watches_at a d.node) (detects_as a (current_of (peer_at a d.node))) stays
+        (λ b. detects_as_kept a (current_of (peer_at a d.node)) d (record { holds = h }) refl g) (λ b. kept_self u d.node d.deeds g);
+  }
 
   -- ---- sleep
 
@@ -194,12 +238,12 @@ module _ {u t : ℕ} {p : Premise u} where
 
   tells_idle_keeps : (a : Address) (uid : Option ℕ) → Keeps u t p (tells_idle a uid)
   tells_idle_keeps a None = stays_here
-  tells_idle_keeps a (Some uid) = tells_here (λ me. lines.Idle me (incarnation a uid))
+  tells_idle_keeps a (Some uid) = tells_here (λ me. lines.Idle me (incarnation a uid)) (λ me. (refl, refl, refl))
 
   sleeps_keep : (a : Address) → Keeps u t p (sleeps a)
   sleeps_keep a = record {
     on = λ d h g. (where_here (is_idle d.node.moment (peer_at a d.node) && not (watches_at a d.node)) _
-        (tells_idle_keeps a (current_of (peer_at a d.node)) ▹ drops_ordinary_here a ▹ drops_control_keeps a ▹ peer_here a asleep_now (record { address = λ q. refl; control = λ q. refl; ordinary = λ q. refl }))).on d h g;
+        (tells_idle_keeps a (current_of (peer_at a d.node)) ▹ drops_ordinary_here a ▹ drops_control_keeps a ▹ peer_here a asleep_now (record { incarnations = λ q. refl; out = λ q. refl; control = λ q. refl; ordinary = λ q. refl }))).on d h g;
   }
 
   ticks_peer_keeps : (a : Address) → Keeps u t p (ticks_peer a)
@@ -213,7 +257,7 @@ module _ {u t : ℕ} {p : Premise u} where
 
   tells_advertised_keeps : (v : UniqueAddress) (kind : Kind) (table : Option Table) → Keeps u t p (tells_advertised v kind table)
   tells_advertised_keeps v kind None = stays_here
-  tells_advertised_keeps v kind (Some table) = tells_here (λ me. lines.Advertised me v kind table.number (length table.names))
+  tells_advertised_keeps v kind (Some table) = tells_here (λ me. lines.Advertised me v kind table.number (length table.names)) (λ me. (refl, refl, refl))
 
   advertises_as_keeps : (v : UniqueAddress) (kind : Kind) (x : Advertised) → Keeps u t p (advertises_as v kind x)
   advertises_as_keeps v kind advertising.New = record { on = λ d h g. (tells_advertised_keeps v kind (unconfirmed_of v kind d.node) ▹ announces_keep v kind (unconfirmed_of v kind d.node)).on d h g }
@@ -251,7 +295,7 @@ module _ {u t : ℕ} {p : Premise u} where
 
   -- a connection that came in is refused
   pub refuses_here : (k : ℕ) → Keeps u t p (tells_of (λ me. lines.Refused me reasons.Connections) ▸ does (Hangs (Inward k)))
-  refuses_here k = tells_here (λ me. lines.Refused me reasons.Connections) ▹ quiet_deed k
+  refuses_here k = tells_here (λ me. lines.Refused me reasons.Connections) (λ me. (refl, refl, refl)) ▹ quiet_deed k
 
   lost_here : (x : ℕ) → Keeps u t p (lost x)
   lost_here x = shaking.lost_keeps x
@@ -259,19 +303,16 @@ module _ {u t : ℕ} {p : Premise u} where
   -- ---- requests
 
   quarantined_keeps : (a : Address) → Keeps u t p (quarantined a)
-  quarantined_keeps a = record { on = λ d h g. (closed (current_of (peer_at a d.node))).on d h g }
-    where
-      closed : (uid : Option ℕ) → Keeps u t p (closes_current a causes.Quarantined uid (tells_of (λ me. lines.Refused me reasons.NotCurrent)))
-      closed uid = sent.closes_current_keeps a causes.Quarantined uid _ (tells_here (λ me. lines.Refused me reasons.NotCurrent))
+  quarantined_keeps a = record { on = λ d h g. (sent.closing_keeps a causes.Quarantined _ (tells_here (λ me. lines.Refused me reasons.NotCurrent) (λ me. (refl, refl, refl)))).on d h g }
 
   asked_for_keeps : (r : Request) → Keeps u t p (asked_for r)
   asked_for_keeps (requests.Pair a) = sent.at_request_keeps a stays stays_here
   asked_for_keeps (requests.Send a x) = sent.at_request_keeps a (sends a x) (sent.sends_keeps a x)
-  asked_for_keeps (requests.Tell a x) = sent.at_request_keeps a (tells_message a x) (sent.tells_message_keeps a x)
-  asked_for_keeps (requests.Watch path watchee) = sent.watches_keep path watchee
-  asked_for_keeps (requests.Unwatch path watchee) = sent.unwatches_keep path watchee
-  asked_for_keeps (requests.Spawn path) = sent.spawns_keep path
-  asked_for_keeps (requests.Kill path) = sent.kills_keep path
+  asked_for_keeps (requests.Tell a x) = sent.at_request_keeps a (tells_message a x) (sent_watching.tells_message_keeps a x)
+  asked_for_keeps (requests.Watch path watchee) = sent_watching.watches_keep path watchee
+  asked_for_keeps (requests.Unwatch path watchee) = sent_watching.unwatches_keep path watchee
+  asked_for_keeps (requests.Spawn path) = sent_watching.spawns_keep path
+  asked_for_keeps (requests.Kill path) = sent_watching.kills_keep path
   asked_for_keeps (requests.Quarantine a) = quarantined_keeps a
 
 -- ---- inbound connections
@@ -282,7 +323,7 @@ reacted u input o w n v f k = record { good = k.good; later = k.later; bytes = �
 
 -- a change of the inbound connections alone
 good_inbound : (u : ℕ) (n : Node whole) (is : List (Inbound whole)) (w : Network) → (w.ended ≡ None → Each (InboundFacts u w.connections) n.inbound → Each (InboundFacts u w.connections) is) → Good u n w → Good u (record n { inbound = is }) w
-good_inbound u n is w f g = record { out = g.out; node = λ e. (let h : NodeFacts u n w = g.node e in record { me = h.me; fresh = h.fresh; alone = h.alone; peers = h.peers; inbound = f e h.inbound }) }
+good_inbound u n is w f g = record { out = g.out; node = λ e. (let h : NodeFacts u n w = g.node e in record { me = h.me; fresh = h.fresh; alone = h.alone; peers = h.peers; inbound = f e h.inbound; named = h.named; bound = h.bound; sent = h.sent }) }
 
 with_bytes_facts : (u : ℕ) (cs : List Conn) (new : List ℕ) (k : ℕ) (is : List (Inbound whole)) → Each (InboundFacts u cs) is → Each (InboundFacts u cs) (change_first (is_number k) (with_bytes new) is)
 with_bytes_facts u cs new k is h = each_change (InboundFacts u cs) (is_number k) (with_bytes new) is (λ i e q. record { owed = q.owed; known = q.known }) h

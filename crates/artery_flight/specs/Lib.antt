@@ -1,3 +1,4 @@
 pub mod Answers
 pub mod Flight
 pub mod Names
+pub mod Numbers

@@ -17,6 +17,11 @@ ghost use Rattle.artery_handshake.specs.declared.out_conn.OutConn.{OutConn};
 ghost use Rattle.artery_handshake.specs.declared.out_conn.OutState.TheVariants.{Bound};
 ghost use Rattle.artery_handshake.specs.declared.in_conn.InState.TheVariants.{Known};
 ghost use Rattle.artery_machine.specs.Node.{Peer, Inbound, conn_of, inbound_at};
+ghost use Rattle.std.specs.Prelude.{◌++◌, ◌∷◌};
+ghost use Rattle.artery_base.specs.declared.message.SysMsg.{SysMsg};
+ghost use Rattle.artery_journal.specs.declared.line.Line.TheVariants as lines;
+ghost use Rattle.artery_judge.specs.Lines.{Entry};
+ghost use Rattle.artery_flight.specs.Numbers.{lines_in, numbers_sent, AreNumbered, WasSent, IsSentOn};
 ghost use Rattle.artery_flight.specs.Answers.{AreReadBack, Reaches, WasDialed, IsAnswerOn, WereDelivered};
 
 /// For every script, what was written on a connection of the network is nothing, or its preamble and behind it frames, each with the bytes of
@@ -101,4 +106,27 @@ pub fn what_came_was_delivered()
         → (i k : ℕ) (l : Live whole) (n : Inbound whole)
         → slice_get (run {P = whole} {W = whole_ways} script).world.live i ≡ Some l → inbound_at k l.node ≡ Some n
         → WereDelivered (run {P = whole} {W = whole_ways} script).world.connections l.node.me.uid k n.bytes }
+{}
+
+/// For every script, the numbers of the messages that an incarnation told it sent to another are 1, 2, 3 and so on, in the order of its lines.
+pub fn messages_are_sent_in_order()
+    ensures { (script : List ScriptLine) (a b : UniqueAddress) → AreNumbered (numbers_sent a b (lines_in (run {P = whole} {W = whole_ways} script).world.outcomes)) }
+{}
+
+/// For every script in whose network each frame that was written is read back: a numbered message on a connection was told as sent, by the one
+/// that it says, to the incarnation that the connection reaches.
+pub fn numbers_are_in_flight()
+    ensures { (script : List ScriptLine) → AreReadBack (run {P = whole} {W = whole_ways} script).world.connections
+        → (i j : ℕ) (c : Connection whole_ways) (x : Wrote) (n : ℕ) (m : SysMsg) (from : UniqueAddress)
+        → slice_get (run {P = whole} {W = whole_ways} script).world.connections i ≡ Some c → slice_get c.way.all j ≡ Some x
+        → x.writing ≡ Controls (controls.Numbered n m from)
+        → IsSentOn c.far from n m (lines_in (run {P = whole} {W = whole_ways} script).world.outcomes) }
+{}
+
+/// For every such script: each message that an incarnation took from another, by a line, that other told before as sent to it, with this number.
+pub fn what_is_taken_was_sent()
+    ensures { (script : List ScriptLine) → AreReadBack (run {P = whole} {W = whole_ways} script).world.connections
+        → (before after : List Entry) (e : Entry) (a b : UniqueAddress) (n : ℕ) (m : SysMsg)
+        → lines_in (run {P = whole} {W = whole_ways} script).world.outcomes ≡ before ++ e ∷ after → e.1 ≡ lines.Took b a n m
+        → WasSent a b n m before }
 {}

@@ -10,6 +10,7 @@ mod laws;
 
 pub use laws::{
     answers_name_their_connection, bound_connections_reach_their_uid, frames_are_in_flight,
-    frames_are_read_back, known_connections_were_dialed, names_are_single,
-    requests_bear_their_dial, what_came_was_delivered,
+    frames_are_read_back, known_connections_were_dialed, messages_are_sent_in_order,
+    names_are_single, numbers_are_in_flight, requests_bear_their_dial, what_came_was_delivered,
+    what_is_taken_was_sent,
 };

@@ -4,8 +4,6 @@ pub mod Pumping
 pub mod Overflows
 pub mod Each
 pub mod Mapping
-pub mod Advertising
 pub mod Unwatched
 pub mod Sent
-pub mod Inserted
 pub mod Heard

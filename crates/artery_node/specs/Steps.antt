@@ -1,5 +1,5 @@
 -- The first steps of rules, by name.
-use Rattle.std.specs.Prelude.{ℕ, nat_le, Bool, if◌then◌else◌, [], Option}
+use Rattle.std.specs.Prelude.{ℕ, if◌then◌else◌, [], Option}
 use Rattle.artery_base.specs.declared.address.Address.{Address}
 use Rattle.artery_base.specs.declared.address.UniqueAddress.{UniqueAddress}
 use Rattle.artery_delivery.specs.declared.outbound.Accept.{Accept}
@@ -9,7 +9,6 @@ use Rattle.artery_journal.specs.declared.words.Cause.{Cause}
 use Rattle.artery_journal.specs.declared.words.Cause.TheVariants as causes
 use Rattle.artery_journal.specs.declared.words.Reason.TheVariants as reasons
 use Rattle.artery_machine.specs.Parts.{kept}
-use Rattle.artery_machine.specs.Node.{Inbound}
 use Rattle.artery_machine.specs.Doing.{Doing, Rule, in_bytes, ◌▸◌, stays, tells_of}
 use Rattle.artery_base.specs.declared.message.SysMsg.{SysMsg}
 use Rattle.artery_machine.specs.Sending.{tells_sent, pumps, sends}
@@ -34,10 +33,6 @@ sent_after address current message (Overflow back) d =
 -- What follows once a watch with this id has ended: it is told, and the other system is told so by this notice. With the last one at the address the detector is removed.
 abbrev pub unwatch_told : Address → ℕ → SysMsg → Rule kept in_bytes
 unwatch_told address id message = tells_of (λ me. lines.Unwatched me id) ▸ sends address message ▸ after_last_watch address
-
--- Whether the number of an inbound connection is at least this one.
-abbrev pub is_at_least : ℕ → Inbound kept → Bool
-is_at_least number i = nat_le number i.number
 
 -- A node at work that did nothing yet.
 abbrev pub without_effects : Doing kept in_bytes → Doing kept in_bytes

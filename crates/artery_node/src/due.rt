@@ -246,7 +246,10 @@ impl Work {
         ensures { result ≡ is_settled v.now kind self.now.node }
     {
         let least = self.current_number(v, kind).saturating_sub(2);
-        self.inbound.iter().all(|i| i.shows_if_by(v, kind, least))
+        self.inbound
+            .as_slice()
+            .iter()
+            .all(|i| i.shows_if_by(v, kind, least))
     }
 
     /// The table of a kind that is announced to an origin and not confirmed.
@@ -289,7 +292,6 @@ impl Work {
     }
 
     /// The tables of a kind are advertised to an origin.
-    #[tactic(auto, using(crate::proofs::Places::set_is_change, crate::proofs::Places::no_place_same, crate::proofs::Places::place_is_found, crate::proofs::Places::no_place, crate::proofs::Advertising::nothing_new))]
     pub fn advertise(
         &mut self,
         v: &UniqueAddress,
@@ -299,23 +301,13 @@ impl Work {
         ensures answer { IfOk result (λ answer. answer ≡ advertising settled (of_kind kind (origin_at v.now self.old.node).tables)) }
         ensures work { OnOk result (self.new ≡ origin_becomes v.now (with_advertised kind settled) self.old) }
     {
-        let alloc = self.alloc;
-        let Some(at) = self.place_of_origin(v) else {
-            return Ok(Advertised::Same);
-        };
-        let origin = &mut self.origins[at];
-        origin.advertise(alloc, kind, settled)
+        self.origins.advertise(self.alloc, v, kind, settled)
     }
 
     /// The tables of an origin were due at this moment.
-    #[tactic(auto, using(crate::proofs::Places::set_is_change, crate::proofs::Places::no_place_same))]
     pub fn set_advertised(&mut self, v: &UniqueAddress, now: u64)
         ensures { self.new ≡ origin_becomes v.now (advertised_now now) self.old }
     {
-        let Some(at) = self.place_of_origin(v) else {
-            return;
-        };
-        let origin = &mut self.origins[at];
-        origin.set_advertised(now);
+        self.origins.set_advertised(v, now);
     }
 }

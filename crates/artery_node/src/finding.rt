@@ -2,7 +2,7 @@
 ghost use Rattle.std.specs.Prelude.{◌≡◌, ◌<◌, length, position, find, IfSome, None, Some, is_some};
 ghost use Rattle.std.specs.Option.{option_copied};
 ghost use Rattle.artery_machine.specs.Parts.{kept};
-ghost use Rattle.artery_machine.specs.Node.{is_peer, has_peer, peer_at, peer_dialed, current_of, conn_of, current_dial, has_closed, is_number, inbound_at, is_origin, has_origin};
+ghost use Rattle.artery_machine.specs.Node.{is_peer, has_peer, peer_at, peer_dialed, current_of, conn_of, current_dial, has_closed, inbound_at, is_origin, has_origin};
 ghost use Rattle.artery_machine.specs.Making.{may_have};
 ghost use Rattle.artery_machine.specs.Closing.{control_dial};
 
@@ -38,41 +38,25 @@ impl Work {
         self.peers.iter().find(|p| p.is_dialed_as(dial))
     }
 
-    /// The place of the inbound connection with a number.
-    pub(crate) fn place_of_inbound(&self, number: u64) -> Option<usize>
-        ensures place { result ≡ position (is_number number) self.now.node.inbound }
-        ensures within { IfSome result (λ at. at < length self.now.node.inbound) }
-    {
-        self.inbound.iter().position(|i| i.is_number(number))
-    }
-
     /// The inbound connection with a number.
     pub fn inbound(&self, number: u64) -> Option<&Inbound>
         ensures { option_copied result ≡ inbound_at number self.now.node }
     {
-        self.inbound.iter().find(|i| i.is_number(number))
-    }
-
-    /// The place of an origin.
-    pub(crate) fn place_of_origin(&self, who: &UniqueAddress) -> Option<usize>
-        ensures place { result ≡ position (is_origin who.now) self.now.node.origins }
-        ensures within { IfSome result (λ at. at < length self.now.node.origins) }
-    {
-        self.origins.iter().position(|o| o.is(who))
+        self.inbound.get(number)
     }
 
     /// An origin, where the node has it.
     pub fn origin(&self, who: &UniqueAddress) -> Option<&Origin>
         ensures { option_copied result ≡ find (is_origin who.now) self.now.node.origins }
     {
-        self.origins.iter().find(|o| o.is(who))
+        self.origins.get(who)
     }
 
     /// Whether the node has an origin.
     pub fn has_origin(&self, who: &UniqueAddress) -> bool
         ensures { result ≡ has_origin who.now self.now.node }
     {
-        self.origins.iter().any(|o| o.is(who))
+        self.origins.has(who)
     }
 
     /// Whether the node has a peer at an address.

@@ -73,15 +73,10 @@ impl Work {
     }
 
     /// An acknowledgement is owed to an origin, or is not.
-    #[tactic(auto, using(crate::proofs::Places::set_is_change, crate::proofs::Places::no_place_same))]
     pub fn owes_ack(&mut self, v: &UniqueAddress, owed: bool)
         ensures { self.new ≡ origin_becomes v.now (owes_ack owed) self.old }
     {
-        let Some(at) = self.place_of_origin(v) else {
-            return;
-        };
-        let origin = &mut self.origins[at];
-        origin.owes_ack(owed);
+        self.origins.owes_ack(v, owed);
     }
 
     // ---- what is kept for a peer
@@ -211,16 +206,11 @@ impl Work {
     }
 
     /// The table of one kind that is announced to an origin is confirmed, where it has this number.
-    #[tactic(auto, using(crate::proofs::Places::set_is_change, crate::proofs::Places::no_place_same, crate::proofs::Places::place_is_found, crate::proofs::Places::no_place, crate::proofs::Heard::of_both))]
     fn confirm(&mut self, v: &UniqueAddress, kind: Kind, number: u64) -> Confirmed
         ensures answer { result ≡ confirming number (of_kind kind (origin_at v.now self.old.node).tables) }
         ensures work { self.new ≡ origin_becomes v.now (with_confirmed kind number) self.old }
     {
-        let Some(at) = self.place_of_origin(v) else {
-            return Confirmed::NotAnnounced;
-        };
-        let origin = &mut self.origins[at];
-        origin.confirm(kind, number)
+        self.origins.confirm(v, kind, number)
     }
 
     /// The table of one kind that is announced to an origin is confirmed, where it has this number, and else nothing changes.
@@ -256,15 +246,10 @@ impl Work {
     }
 
     /// The tables with these numbers are shown on the inbound connection with a number.
-    #[tactic(auto, using(crate::proofs::Places::set_is_change, crate::proofs::Places::no_place_same))]
     fn show(&mut self, conn: u64, refs: Option<u64>, manifests: Option<u64>)
         ensures { self.new ≡ inbound_becomes conn (with_numbers refs manifests) self.old }
     {
-        let Some(at) = self.place_of_inbound(conn) else {
-            return;
-        };
-        let inbound = &mut self.inbound[at];
-        inbound.show(refs, manifests);
+        self.inbound.show(conn, refs, manifests);
     }
 
     /// The tables announced to an origin by which an envelope was written are shown on the inbound connection with a number.
@@ -280,17 +265,11 @@ impl Work {
     }
 
     /// The names of an envelope are counted for an origin.
-    #[tactic(auto, using(crate::proofs::Places::set_is_change, crate::proofs::Places::no_place_same))]
     fn count_names(&mut self, v: &UniqueAddress, envelope: Envelope<'_>) -> Result<(), NoMemory>
         requires { HasTexts (envelope_of envelope) }
         ensures { OnOk result (self.new ≡ origin_becomes v.now (with_names (envelope_of envelope.entry)) self.old) }
     {
-        let alloc = self.alloc;
-        let Some(at) = self.place_of_origin(v) else {
-            return Ok(());
-        };
-        let origin = &mut self.origins[at];
-        origin.count_names(alloc, envelope)
+        self.origins.count_names(self.alloc, v, envelope)
     }
 
     /// The names of an envelope are counted for an origin: sender and recipient as references, then the manifest.

@@ -13,7 +13,7 @@ use crate::work::Work;
 use artery_base::{Address, NoMemory, UniqueAddress};
 use artery_frame::Stream;
 use artery_machine::Answer;
-use artery_peer::{Inbound, Origin};
+use artery_peer::Inbound;
 use std::alloc::Global;
 
 /// At most so many origins are known.
@@ -78,39 +78,24 @@ impl Work {
     }
 
     /// It is known from the first request on who speaks on the inbound connection with a number, and with which nonce.
-    #[tactic(auto, using(crate::proofs::Places::set_is_change, crate::proofs::Places::no_place_same))]
     pub fn set_known(&mut self, number: u64, v: UniqueAddress, its_nonce: Option<u64>)
         ensures { self.new ≡ inbound_becomes number (known_as v its_nonce) self.old }
     {
-        let Some(at) = self.place_of_inbound(number) else {
-            return;
-        };
-        let inbound = &mut self.inbound[at];
-        inbound.know(v, its_nonce);
+        self.inbound.know(number, v, its_nonce);
     }
 
     /// An answer is owed on the inbound connection with a number; a former one is not owed any more.
-    #[tactic(auto, using(crate::proofs::Places::set_is_change, crate::proofs::Places::no_place_same))]
     pub fn set_owing(&mut self, number: u64, answer: Answer)
         ensures { self.new ≡ inbound_becomes number (owing answer) self.old }
     {
-        let Some(at) = self.place_of_inbound(number) else {
-            return;
-        };
-        let inbound = &mut self.inbound[at];
-        inbound.set_owing(answer);
+        self.inbound.set_owing(number, answer);
     }
 
     /// No answer is owed on the inbound connection with a number.
-    #[tactic(auto, using(crate::proofs::Places::set_is_change, crate::proofs::Places::no_place_same))]
     pub fn set_owes_no_answer(&mut self, number: u64)
         ensures { self.new ≡ inbound_becomes number owes_no_answer self.old }
     {
-        let Some(at) = self.place_of_inbound(number) else {
-            return;
-        };
-        let inbound = &mut self.inbound[at];
-        inbound.set_owes_no_answer();
+        self.inbound.set_owes_no_answer(number);
     }
 
     // ---- origins
@@ -126,8 +111,7 @@ impl Work {
     pub fn add_origin(&mut self, who: &UniqueAddress) -> Result<(), NoMemory>
         ensures { OnOk result (self.new ≡ becomes (with_origin who.now) self.old) }
     {
-        let copy = who.clone()?;
-        self.origins.push(Origin::new(self.moment, copy))?;
+        self.origins.add(self.moment, who)?;
         let _opened = self.taken.open_origin(self.alloc, who)?;
         Ok(())
     }
@@ -140,14 +124,9 @@ impl Work {
     }
 
     /// No acknowledgement is owed to an origin.
-    #[tactic(auto, using(crate::proofs::Places::set_is_change, crate::proofs::Places::no_place_same))]
     pub fn set_owes_no_ack(&mut self, who: &UniqueAddress)
         ensures { self.new ≡ origin_becomes who.now owes_no_ack self.old }
     {
-        let Some(at) = self.place_of_origin(who) else {
-            return;
-        };
-        let origin = &mut self.origins[at];
-        origin.set_owes_no_ack();
+        self.origins.set_owes_no_ack(who);
     }
 }

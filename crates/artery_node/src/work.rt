@@ -6,8 +6,9 @@ ghost use Rattle.artery_machine.specs.Doing.{in_bytes};
 
 use artery_base::UniqueAddress;
 use artery_delivery::Inbound as Taken;
+use artery_known::{Inbounds, Origins};
 use artery_machine::Effect;
-use artery_peer::{Inbound, Origin, Peer};
+use artery_peer::Peer;
 use artery_watch::Watcher;
 use std::alloc::Global;
 use std::marker::Model;
@@ -22,8 +23,8 @@ pub struct Work {
     pub(crate) moment: u64,
     pub(crate) dials: u64,
     pub(crate) peers: Vec<Peer>,
-    pub(crate) inbound: Vec<Inbound>,
-    pub(crate) origins: Vec<Origin>,
+    pub(crate) inbound: Inbounds,
+    pub(crate) origins: Origins,
     pub(crate) taken: Taken,
     pub(crate) watching: Watcher,
     pub(crate) effects: Vec<Effect>,
@@ -36,7 +37,7 @@ impl Model for Work {
 
     ghost Value = { Doing kept in_bytes };
 
-    ghost view = { λ w. record { node = record { me = w.me; moment = w.moment; dials = w.dials; peers = w.peers.items; inbound = w.inbound.items; origins = w.origins.items; taken = w.taken; watching = w.watching }; deeds = record { uid = w.me.uid; effects = w.effects.items } } };
+    ghost view = { λ w. record { node = record { me = w.me; moment = w.moment; dials = w.dials; peers = w.peers.items; inbound = w.inbound; origins = w.origins; taken = w.taken; watching = w.watching }; deeds = record { uid = w.me.uid; effects = w.effects.items } } };
 
     ghost invariant = { λ w. w.moment < 2 ^ 62 };
 }
@@ -53,8 +54,8 @@ impl Work {
             moment: 0,
             dials: 0,
             peers: Vec::new(alloc),
-            inbound: Vec::new(alloc),
-            origins: Vec::new(alloc),
+            inbound: Inbounds::new(alloc),
+            origins: Origins::new(alloc),
             taken: Taken::new(),
             watching: Watcher::new(),
             effects: Vec::new(alloc),

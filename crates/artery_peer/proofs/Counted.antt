@@ -6,7 +6,7 @@ use Rattle.std.proofs.lemmas.Str.Ascii.{IsAscii-from_all}
 use Rattle.std.proofs.lemmas.Bool.{ltb-true}
 use Rattle.std.proofs.lemmas.Bool.Decides.{nat_tests}
 use Rattle.std.proofs.lemmas.List.Sums.{AllPass-from_list_all}
-use Rattle.artery_header.specs.Envelope.{Literal, is_text}
+use Rattle.artery_header.specs.Envelope.{NameOf, Literal, Index, is_text}
 use Rattle.artery_journal.specs.declared.words.Kind.{Kind}
 use Rattle.artery_machine.specs.Parts.{kept}
 use Rattle.artery_machine.specs.Node.{Origin}
@@ -29,3 +29,9 @@ none_counted kind (b ∷ bs) o h = absurd (not_none (length bs) h)
 pub some_counted : (kind : Kind) (text : List ℕ) (o : Origin kept) → 0 < length text → with_text kind text o ≡ with_counted kind (Literal text) o
 some_counted kind [] o h = absurd (omega arith)
 some_counted kind (b ∷ bs) o h = refl
+
+-- Who an origin is stays when a name is counted.
+pub who_stays : (kind : Kind) (name : NameOf) (o : Origin kept) → (with_counted kind name o).who ≡ o.who
+who_stays kind (Index i) o = refl
+who_stays kind (Literal []) o = refl
+who_stays kind (Literal (b ∷ bs)) o = refl

@@ -257,6 +257,7 @@ impl Origin {
     ) -> Result<Advertised, NoMemory>
         ensures answer { IfOk result (λ answer. answer ≡ advertising settled (of_kind kind self.old.tables)) }
         ensures origin { OnOk result (self.new ≡ with_advertised kind settled self.old) }
+        ensures who { self.new.who ≡ self.old.who }
     {
         match kind {
             Kind::Refs => self.refs.advertise(alloc, settled),

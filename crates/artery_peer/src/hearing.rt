@@ -169,9 +169,11 @@ impl Origin {
     /// The names of an envelope are counted: sender and recipient as references, then the manifest.
     ///
     /// Wants that they are ASCII.
+    #[tactic(auto, using(crate::proofs::Counted::who_stays))]
     pub fn count_names(&mut self, alloc: Global, envelope: Envelope<'_>) -> Result<(), NoMemory>
         requires { HasTexts (envelope_of envelope) }
-        ensures { OnOk result (self.new ≡ with_names (envelope_of envelope.entry) self.old) }
+        ensures origin { OnOk result (self.new ≡ with_names (envelope_of envelope.entry) self.old) }
+        ensures who { self.new.who ≡ self.old.who }
     {
         self.count(alloc, Kind::Refs, envelope.sender)?;
         self.count(alloc, Kind::Refs, envelope.recipient)?;

@@ -1,0 +1,5 @@
+pub mod Changed
+pub mod Indexed
+pub mod Unknown
+pub mod Ascending
+pub mod Inserted

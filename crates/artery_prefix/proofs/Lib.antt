@@ -1,0 +1,3 @@
+pub mod Orders
+pub mod Taken
+pub mod Prefixes

@@ -1,0 +1,12 @@
+pub mod Facts
+pub mod Sizes
+pub mod Rules
+pub mod Sending
+pub mod Naming
+pub mod Watching
+pub mod Handshaking
+pub mod Tables
+pub mod Hearing
+pub mod Reacting
+pub mod Readable
+pub mod Worlds
