@@ -319,7 +319,7 @@ fn dials(play: &mut Game) -> bool {
 /// Whether the connections at the limit are counted, and no further one is.
 fn last_are_counted(play: &Game) -> bool {
     counts(play, 0, Some((1, 1, 88, 0)))
-        && counts(play, 99_999, Some((1, 100_000, 88, 0)))
+        && counts(play, 99_999, Some((1, 100_000, 90, 0)))
         && counts(play, 100_000, None)
 }
 
