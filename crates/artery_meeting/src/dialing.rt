@@ -50,7 +50,7 @@ pub(crate) fn writes_answer(
         return Ok(());
     };
     let me = work.me().clone()?;
-    work.write_control(Some(dial), response(me, answer))
+    work.write_control(Some(dial), &response(me, answer))
 }
 
 /// Whether the one that is known to speak on an inbound connection is at an address.

@@ -35,7 +35,7 @@ impl Work {
             to,
             nonce: Some(dial),
         };
-        self.write_control(Some(dial), request)
+        self.write_control(Some(dial), &request)
     }
 
     /// An own connection of the peer at an address is hung up and gone, and may be dialed again 1,000 ms from now.

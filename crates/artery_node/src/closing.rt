@@ -48,7 +48,7 @@ impl Work {
         ensures { OnOk result (self.new ≡ on_control v.now control self.old) }
     {
         let dial = self.control_dial(v);
-        self.write_control(dial, control)
+        self.write_control(dial, &control)
     }
 
     /// The same to the incarnation at an address that is current, if one is.
@@ -64,7 +64,7 @@ impl Work {
             None => None,
             Some(uid) => self.control_dial_to(address, uid),
         };
-        self.write_control(dial, control)
+        self.write_control(dial, &control)
     }
 
     /// The dial number of the control connection to the incarnation with this UID at an address, where it is bound to it.

@@ -77,12 +77,12 @@ impl Work {
 
     /// A control message is written on the own connection with this dial number, where there is one. `NoMemory` also where its frame would
     /// have more than 262,144 bytes.
-    pub fn write_control(&mut self, dial: Option<u64>, control: Control) -> Result<(), NoMemory>
-        ensures { OnOk result (self.new ≡ writes_on dial (Controls control) self.old) }
+    pub fn write_control(&mut self, dial: Option<u64>, control: &Control) -> Result<(), NoMemory>
+        ensures { OnOk result (self.new ≡ writes_on dial (Controls control.now) self.old) }
     {
-        match dial {
-            None => Ok(()),
-            Some(dial) => self.write_control_on(dial, &control),
-        }
+        let Some(dial) = dial else {
+            return Ok(());
+        };
+        self.write_control_on(dial, control)
     }
 }
