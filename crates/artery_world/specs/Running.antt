@@ -8,7 +8,7 @@ use Rattle.artery_machine.specs.declared.world.WorldFault.{WorldFault}
 use Rattle.artery_machine.specs.declared.world.WorldFault.TheVariants as faults
 use Rattle.artery_machine.specs.Parts.{kept}
 use Rattle.artery_machine.specs.Ways.{kept_ways}
-use Rattle.artery_machine.specs.World.{World, Live, applies}
+use Rattle.artery_machine.specs.World.{World, Live, applies, refusal}
 use Rattle.artery_machine.specs.Playing.{fault_of}
 use Rattle.artery_core.specs.Running.{IsFit}
 
@@ -60,3 +60,14 @@ Comes (Ok done) event old new before after = HasCome None event old new before a
 Comes (Err (faults.NotAllowed reason)) event old new before after = HasCome (Some (faults.NotAllowed reason)) event old new before after
 Comes (Err (faults.Limit which)) event old new before after = HasCome (Some (faults.Limit which)) event old new before after
 Comes (Err faults.NoMemory) event old new before after = HasStopped old new before after
+
+-- A network runs, and the event is not refused.
+pub record MayHappen (event : Event) (now : Running) : Type 0 where
+  pub runs : now.stopped ≡ false
+  pub within : now.world.ended ≡ None
+  pub allowed : refusal event now.world ≡ None
+
+-- Why an event does not happen, if so: then it is answered so, with nothing told. Else it may happen, and the network is as it was.
+abbrev pub Bars : Option WorldFault → Event → Running → Running → Type 0
+Bars None event old new = (new ≡ old) × MayHappen event old
+Bars (Some fault) event old new = (told : List Outcome) → Comes (Err fault) event old new told told

@@ -1,9 +1,9 @@
 //! A network, event by event.
-ghost use Rattle.std.specs.Prelude.{◌≡◌, [], ◌++◌, None, OnOk, OnErr, slice_get};
+ghost use Rattle.std.specs.Prelude.{◌≡◌, [], ◌++◌, None, Err, OnOk, OnErr, slice_get};
 ghost use Rattle.std.specs.Option.{option_map};
 ghost use Rattle.artery_machine.specs.World.{nothing, happens, refusal};
 ghost use Rattle.artery_connections.specs.Change.{counts_of};
-ghost use Rattle.artery_world.specs.Running.{Comes, IsFitEvent, running};
+ghost use Rattle.artery_world.specs.Running.{Bars, Comes, IsFitEvent, MayHappen, running};
 
 use crate::network::Network;
 use crate::outcomes::Outcomes;
@@ -51,6 +51,13 @@ fn happens_and_tells(
     Ok(())
 }
 
+/// An event that is barred is let go.
+fn barred(_event: Event, fault: WorldFault) -> Result<(), WorldFault>
+    ensures { result ≡ Err fault }
+{
+    Err(fault)
+}
+
 impl World {
     /// Nothing has happened. Takes no memory.
     pub fn new(alloc: Global) -> World
@@ -59,6 +66,46 @@ impl World {
         World {
             network: Network::new(alloc),
             stopped: false,
+        }
+    }
+
+    /// Why an event does not happen, if so. Where memory runs out, the network has ended.
+    fn bars(&mut self, event: &Event) -> Option<WorldFault>
+        ensures { Bars result event.now self.old self.new }
+    {
+        if self.stopped {
+            return Some(WorldFault::NoMemory);
+        }
+        if let Some(which) = self.network.ended {
+            return Some(WorldFault::Limit { which });
+        }
+        match self.network.refusal(event) {
+            Ok(None) => None,
+            Ok(Some(why)) => Some(WorldFault::NotAllowed { why }),
+            Err(NoMemory) => {
+                self.stopped = true;
+                Some(WorldFault::NoMemory)
+            }
+        }
+    }
+
+    /// An event that nothing bars happens, as far as the limits allow.
+    fn plays(&mut self, event: Event, out: &mut Outcomes) -> Result<(), WorldFault>
+        requires fit { IsFitEvent event }
+        requires runs { MayHappen event self.old }
+        ensures { Comes result event self.old self.new out.old out.new }
+    {
+        match happens_and_tells(&mut self.network, event, out) {
+            Ok(()) => {}
+            Err(NoMemory) => {
+                self.network.outcomes.clear();
+                self.stopped = true;
+                return Err(WorldFault::NoMemory);
+            }
+        }
+        match self.network.ended {
+            Some(which) => Err(WorldFault::Limit { which }),
+            None => Ok(()),
         }
     }
 
@@ -73,31 +120,9 @@ impl World {
         requires { IsFitEvent event }
         ensures { Comes result event self.old self.new out.old out.new }
     {
-        if self.stopped {
-            return Err(WorldFault::NoMemory);
-        }
-        if let Some(which) = self.network.ended {
-            return Err(WorldFault::Limit { which });
-        }
-        match self.network.refusal(&event) {
-            Ok(None) => {}
-            Ok(Some(why)) => return Err(WorldFault::NotAllowed { why }),
-            Err(NoMemory) => {
-                self.stopped = true;
-                return Err(WorldFault::NoMemory);
-            }
-        }
-        match happens_and_tells(&mut self.network, event, out) {
-            Ok(()) => {}
-            Err(NoMemory) => {
-                self.network.outcomes.clear();
-                self.stopped = true;
-                return Err(WorldFault::NoMemory);
-            }
-        }
-        match self.network.ended {
-            Some(which) => Err(WorldFault::Limit { which }),
-            None => Ok(()),
+        match self.bars(&event) {
+            None => self.plays(event, out),
+            Some(fault) => barred(event, fault),
         }
     }
 
