@@ -158,7 +158,7 @@ learnt_address uid i = by (learning uid i)
     by WasClosed = refl
     by ClosedFull = refl
 
-module _ {nobody : UniqueAddress} {u m : ℕ} {given : ℕ → ℕ} where
+module _ {nobody : UniqueAddress} {u : ℕ} {given : ℕ → ℕ} where
   learnt_live : (v : UniqueAddress) (now : ℕ) (n : Node whole) (w : Network) → (peer_at v.address n).incarnations.current ≡ None → Good nobody u given nowhere n w
       → Good nobody u given nowhere (record n { peers = change_first (is_peer v.address) (with_learnt now v.uid) n.peers }) w
   learnt_live v now n w none g = peers_change nobody u given nowhere nowhere n v.address (with_learnt now v.uid) w g (λ h b. (
@@ -190,6 +190,7 @@ module _ {nobody : UniqueAddress} {u m : ℕ} {given : ℕ → ℕ} where
   learnt_good v now n w none g = by_test (is_none w.ended) (λ t. learnt_live v now n w (none (none_is w.ended t)) g)
       (λ t. record { lawful = g.lawful; out = g.out; node = λ e. not_both (ap is_none e) t })
 
+module _ {nobody : UniqueAddress} {u m : ℕ} {given : ℕ → ℕ} where
   learns_new_kept : (v : UniqueAddress) (former : Option ℕ) (d : Work u m) → former ≡ current_of (peer_at v.address d.node) → Good nobody u given nowhere d.node d.deeds
       → Kept nobody u given nowhere d.deeds (learns_new v former d).node (learns_new v former d).deeds
   learns_new_kept v former d same g =
@@ -221,8 +222,9 @@ module _ {nobody : UniqueAddress} {u m : ℕ} {given : ℕ → ℕ} where
   learns_keep : (v : UniqueAddress) → Keeps nobody u m given (learns v)
   learns_keep v = record { on = λ d g. learns_as_kept v d (learning v.uid (peer_at v.address d.node).incarnations) refl g }
 
-  -- ---- what was held
+-- ---- what was held
 
+module _ {u m : ℕ} where
   told_same : (a : Address) (dial : ℕ) (message : Tell) (d : Work u m) → (tells_on a dial message d).node ≡ d.node
   told_same a dial message d = by (current_of (peer_at a d.node))
     where
@@ -230,6 +232,7 @@ module _ {nobody : UniqueAddress} {u m : ℕ} {given : ℕ → ℕ} where
       by None = refl
       by (Some uid) = refl
 
+module _ {nobody : UniqueAddress} {u m : ℕ} {given : ℕ → ℕ} where
   all_told : (a : Address) (dial uid : ℕ) (messages : List Tell) (d : Work u m) → Speaks (peer_at a d.node) dial uid → Good nobody u given nowhere d.node d.deeds
       → Kept nobody u given nowhere d.deeds (each messages (tells_on a dial) d).node (each messages (tells_on a dial) d).deeds
   all_told a dial uid [] d s g = kept_self nobody u given nowhere d.node d.deeds g
@@ -363,7 +366,7 @@ linked_facts : (nobody me : UniqueAddress) (cs : List Conn) (ls : List Line) (a 
 linked_facts nobody me cs ls a streams.Control f p g h = record { alive = h.alive; unspoken = h.unspoken; control = g p.control h.control; ordinary = h.ordinary }
 linked_facts nobody me cs ls a streams.Ordinary f p g h = record { alive = h.alive; unspoken = h.unspoken; control = h.control; ordinary = g p.ordinary h.ordinary }
 
-module _ {nobody : UniqueAddress} {u m : ℕ} {given : ℕ → ℕ} where
+module _ {nobody : UniqueAddress} {u : ℕ} {given : ℕ → ℕ} where
   bound_live : (stream : Stream) (v : UniqueAddress) (for_uid its_nonce : Option ℕ) (n : Node whole) (w : Network) → Meant nobody u v for_uid its_nonce w.connections (journal w) → Good nobody u given nowhere n w
       → Good nobody u given nowhere (record n { peers = change_first (is_peer v.address) (with_link stream (change_conn (conn_answered n.me.uid v.uid for_uid its_nonce))) n.peers }) w
   bound_live stream v for_uid its_nonce n w meant g = peers_change nobody u given nowhere nowhere n v.address (with_link stream f) w g (λ h b. (
@@ -390,6 +393,7 @@ module _ {nobody : UniqueAddress} {u m : ℕ} {given : ℕ → ℕ} where
   bound_good stream v for_uid its_nonce n w meant g = by_test (is_none w.ended) (λ t. bound_live stream v for_uid its_nonce n w (meant (none_is w.ended t)) g)
       (λ t. record { lawful = g.lawful; out = g.out; node = λ e. not_both (ap is_none e) t })
 
+module _ {nobody : UniqueAddress} {u m : ℕ} {given : ℕ → ℕ} where
   -- the ordinary connection is bound: what was held is told on it
   held_kept : (v : UniqueAddress) (its_nonce : Option ℕ) (d : Work u m) → ((dial : ℕ) → dial_of (conn_of streams.Ordinary (peer_at v.address d.node)) ≡ Some dial → bound_in (conn_of streams.Ordinary (peer_at v.address d.node)) ≡ Some (dial, v.uid))
       → Good nobody u given nowhere d.node d.deeds → Kept nobody u given nowhere d.deeds (binds streams.Ordinary v its_nonce d).node (binds streams.Ordinary v its_nonce d).deeds
