@@ -1,6 +1,6 @@
 -- What a frame says to the node that hears it, and how many frames were given to it.
 use Rattle.std.proofs.Common.{◌≡◌, ℕ, zero, suc, ◌+◌, ◌≤◌, ◌<◌, Bool, true, false, ◌&&◌, cond, List, [], ◌∷◌, ◌++◌, length, take, drop, map, refl, sym, ◌∙◌, ap, subst, arith}
-use Rattle.std.specs.Prelude.{Option, None, Some, Result, Ok, Err, ◌==◌, ◌||◌, is_some, slice_get}
+use Rattle.std.specs.Prelude.{Option, None, Some, Result, Ok, Err, ℤ, ◌==◌, ◌||◌, is_some, slice_get}
 use Rattle.artery_base.specs.Words.{◌>>=◌}
 use Rattle.artery_base.specs.declared.address.UniqueAddress.{UniqueAddress}
 use Rattle.artery_base.specs.declared.message.Tell.{Tell}
@@ -114,7 +114,7 @@ ordinary_is stream n i uid (Begins s) e m f r h = not_both refl (sym f)
 ordinary_is stream n i uid (Controls control) e m f r h =
     let a : MeansHere stream n i (control_envelope control uid) (SaysOrdinary e m) = means_here stream n i (control_envelope control uid) (SaysOrdinary e m) (ap (read_said stream n i) (sym r.1) ∙ h) in
     let kind : a.meaning.serializer ≡ (control_envelope control uid).serializer = serializer_stays (whole.entries (tables_for i.state n).refs) (whole.entries (tables_for i.state n).manifests) (control_envelope control uid) a.meaning a.means in
-    let P : ℕ → Type 0 = λ z. cond (is_control_serializer z) (control_read (message_of a.meaning.manifest a.meaning.payload)) (Ok (SaysOrdinary (control_envelope control uid) a.meaning)) ≡ Ok (SaysOrdinary e m) in
+    let P : ℤ → Type 0 = λ z. cond (is_control_serializer z) (control_read (message_of a.meaning.manifest a.meaning.payload)) (Ok (SaysOrdinary (control_envelope control uid) a.meaning)) ≡ Ok (SaysOrdinary e m) in
     not_ordinary (message_of a.meaning.manifest a.meaning.payload) e m (subst P kind a.says)
 ordinary_is stream n i uid (Sends envelope) e m f r h =
     let a : MeansHere stream n i envelope (SaysOrdinary e m) = means_here stream n i envelope (SaysOrdinary e m) (ap (read_said stream n i) (sym r.1) ∙ h) in
@@ -147,11 +147,11 @@ said_less : {X : Type 0} (says : Writing → List X) (ws : List Wrote) (g h : �
 said_less says ws zero h l = omega arith
 said_less says ws (suc g) zero l = (let f : ⊥ = omega arith in absurd f)
 said_less says [] (suc g) (suc h) l = omega arith
-said_less says (w ∷ ws) (suc g) (suc h) l = more (says w.writing) (said_less says ws g h (omega arith))
+said_less says (w ∷ ws) (suc g) (suc h) l = more (all_said says (take g ws)) (all_said says (take h ws)) (says w.writing) (said_less says ws g h (omega arith))
   where
-    more : {X : Type 0} {ys zs : List X} (xs : List X) → length ys ≤ length zs → length (xs ++ ys) ≤ length (xs ++ zs)
-    more [] k = k
-    more {ys = ys} {zs = zs} (x ∷ xs) k = (let r : length (xs ++ ys) ≤ length (xs ++ zs) = more xs k in omega arith)
+    more : {X : Type 0} (ys zs xs : List X) → length ys ≤ length zs → length (xs ++ ys) ≤ length (xs ++ zs)
+    more ys zs [] k = k
+    more ys zs (x ∷ xs) k = (let r : length (xs ++ ys) ≤ length (xs ++ zs) = more ys zs xs k in omega arith)
 
 messages_append : (xs ys : List Told) → messages (xs ++ ys) ≡ messages xs ++ messages ys
 messages_append [] ys = refl

@@ -35,7 +35,7 @@ use Rattle.artery_names.specs.Versions.{Fits}
 use Rattle.artery_names.proofs.Lists.{by_test, none_is, on_cond, not_both, not_some, some_same, eq_true, eq_self, and_left, and_right, and_both, get_prefix, Each, each_weaker, each_get, Or, First, Second, Within, within_more, within_push}
 use Rattle.artery_names.proofs.Said.{all_said, sends_said, carried}
 use Rattle.artery_names.proofs.Talks.{Told, adopted_by, told_by, got_by, name_by, messages, newest_line, SameSaid}
-use Rattle.artery_names.proofs.Facts.{Network, Conn, journal, sends_on, Announced, IsWritten, AreWritten, AtMost, AreRising, IsLawful, Out, bound_in, IsShown, IsState, IsKnown, InFacts, Heard, stories_of, story_of, sent_in, NodeFacts, Good}
+use Rattle.artery_names.proofs.Facts.{Network, Conn, journal, sends_on, Announced, IsWritten, AreWritten, AtMost, AreRising, ConnFacts, IsLawful, Out, bound_in, IsShown, IsState, IsKnown, InFacts, Heard, stories_of, story_of, sent_in, NodeFacts, Good}
 use Rattle.artery_names.proofs.Growing.{Grown, along_self, Along, Still, still_self, Stepped, stepped_self, grown_self, inward_same, sent_same}
 use Rattle.artery_names.proofs.Plain.{Same, peer_facts_plain, all_held_grow, out_plain}
 use Rattle.artery_names.proofs.Outside.{outward}
@@ -52,23 +52,29 @@ use Rattle.artery_names.proofs.Frames.{IsOrdinary, then_given, Comes, comes_good
 
 -- ---- lists
 
+next_is : (s : ℕ) → s + 1 ≡ suc s
+next_is s = omega arith
+
+take_more : (ts : List Told) (s : ℕ) (t : Told) → slice_get ts s ≡ Some t → messages (take (suc s) ts) ≡ messages (take s ts) ++ t.message ∷ []
+take_more [] s t h = not_some h
+take_more (x ∷ ts) zero t h = ap (λ (z : Told). z.message ∷ messages (take zero ts)) (some_same h)
+take_more (x ∷ ts) (suc s) t h = ap (λ l. x.message ∷ l) (take_more ts s t h)
+
 take_next : (ts : List Told) (s : ℕ) (t : Told) → slice_get ts s ≡ Some t → messages (take (s + 1) ts) ≡ messages (take s ts) ++ t.message ∷ []
-take_next [] s t h = not_some h
-take_next (x ∷ ts) zero t h = ap (λ (z : Told). z.message ∷ messages (take zero ts)) (some_same h) ∙ ap (λ l. t.message ∷ l) (nothing ts)
-  where
-    nothing : (us : List Told) → messages (take zero us) ≡ []
-    nothing us = refl
-take_next (x ∷ ts) (suc s) t h = ap (λ l. x.message ∷ l) (take_next ts s t h)
+take_next ts s t h = ap (λ (n : ℕ). messages (take n ts)) (next_is s) ∙ take_more ts s t h
 
 drop_next : (P : Told → Type 0) (ts : List Told) (s : ℕ) (t : Told) → slice_get ts s ≡ Some t → Each P (drop s ts) → P t
 drop_next P [] s t h k = not_some h
 drop_next P (x ∷ ts) zero t h k = subst P (some_same h) k.0
 drop_next P (x ∷ ts) (suc s) t h k = drop_next P ts s t h k
 
+rising_more : (ts : List Told) (s : ℕ) (t : Told) → AreRising ts → slice_get ts s ≡ Some t → Each (λ (z : Told). AtMost t.numbers z.numbers) (drop (suc s) ts)
+rising_more [] s t r h = not_some h
+rising_more (x ∷ ts) zero t r h = subst (λ (y : Told). Each (λ (z : Told). AtMost y.numbers z.numbers) ts) (some_same h) r.0
+rising_more (x ∷ ts) (suc s) t r h = rising_more ts s t r.1 h
+
 rising_next : (ts : List Told) (s : ℕ) (t : Told) → AreRising ts → slice_get ts s ≡ Some t → Each (λ (z : Told). AtMost t.numbers z.numbers) (drop (s + 1) ts)
-rising_next [] s t r h = not_some h
-rising_next (x ∷ ts) zero t r h = subst (λ (y : Told). Each (λ (z : Told). AtMost y.numbers z.numbers) ts) (some_same h) r.0
-rising_next (x ∷ ts) (suc s) t r h = rising_next ts s t r.1 h
+rising_next ts s t r h = subst (λ (n : ℕ). Each (λ (z : Told). AtMost t.numbers z.numbers) (drop n ts)) (sym (next_is s)) (rising_more ts s t r h)
 
 written_at : (cs : List Conn) (near far : ℕ) (es : List EnvelopeOf) (ts : List Told) (s : ℕ) (e : EnvelopeOf) → AreWritten cs near far es ts → slice_get es s ≡ Some e → (t : Told) × (slice_get ts s ≡ Some t) × IsWritten cs near far e t
 written_at cs near far [] ts s e w h = not_some h
@@ -77,24 +83,28 @@ written_at cs near far (d ∷ es) (t ∷ ts) zero e w h = (t, refl, subst (λ (x
 written_at cs near far (d ∷ es) (t ∷ ts) (suc s) e w h = written_at cs near far es ts s e w.1 h
 
 -- an ordinary message at a place among all that was written
-said_at : (ws : List Wrote) (p : ℕ) (x : Wrote) (e : EnvelopeOf) → slice_get ws p ≡ Some x → x.writing ≡ Sends e
-    → (slice_get (all_said sends_said ws) (length (all_said sends_said (take p ws))) ≡ Some e) × (length (all_said sends_said (take (p + 1) ws)) ≡ length (all_said sends_said (take p ws)) + 1)
-said_at [] p x e h k = not_some h
-said_at (w ∷ ws) zero x e h k =
+said_from : (ws : List Wrote) (p : ℕ) (x : Wrote) (e : EnvelopeOf) → slice_get ws p ≡ Some x → x.writing ≡ Sends e
+    → (slice_get (all_said sends_said ws) (length (all_said sends_said (take p ws))) ≡ Some e) × (length (all_said sends_said (take (suc p) ws)) ≡ length (all_said sends_said (take p ws)) + 1)
+said_from [] p x e h k = not_some h
+said_from (w ∷ ws) zero x e h k =
     let is : w.writing ≡ Sends e = ap (λ (z : Wrote). z.writing) (some_same h) ∙ k in
-    (ap (λ (z : Writing). slice_get (sends_said z ++ all_said sends_said ws) 0) is, ap (λ (z : Writing). length (sends_said z ++ all_said sends_said (take zero ws))) is)
-said_at (w ∷ ws) (suc p) x e h k =
-    let r = said_at ws p x e h k in
-    (behind (sends_said w.writing) (all_said sends_said ws) (length (all_said sends_said (take p ws))) (all_said sends_said (take p ws)) refl r.0,
-    longer (sends_said w.writing) (all_said sends_said (take (p + 1) ws)) (all_said sends_said (take p ws)) r.1)
+    (ap (λ (z : Writing). slice_get (sends_said z ++ all_said sends_said ws) 0) is, ap (λ (z : Writing). length (sends_said z ++ [])) is)
+said_from (w ∷ ws) (suc p) x e h k =
+    let r = said_from ws p x e h k in
+    (behind (sends_said w.writing) (all_said sends_said ws) (all_said sends_said (take p ws)) r.0,
+    longer (sends_said w.writing) (all_said sends_said (take (suc p) ws)) (all_said sends_said (take p ws)) r.1)
   where
-    behind : (xs ys : List EnvelopeOf) (n : ℕ) (zs : List EnvelopeOf) → length zs ≡ n → slice_get ys n ≡ Some e → slice_get (xs ++ ys) (length (xs ++ zs)) ≡ Some e
-    behind [] ys n zs l q = ap (λ (z : ℕ). slice_get ys z) l ∙ q
-    behind (y ∷ xs) ys n zs l q = behind xs ys n zs l q
+    behind : (xs ys zs : List EnvelopeOf) → slice_get ys (length zs) ≡ Some e → slice_get (xs ++ ys) (length (xs ++ zs)) ≡ Some e
+    behind [] ys zs q = q
+    behind (y ∷ xs) ys zs q = behind xs ys zs q
 
     longer : (xs ys zs : List EnvelopeOf) → length ys ≡ length zs + 1 → length (xs ++ ys) ≡ length (xs ++ zs) + 1
     longer [] ys zs l = l
     longer (y ∷ xs) ys zs l = (let r : length (xs ++ ys) ≡ length (xs ++ zs) + 1 = longer xs ys zs l in omega arith)
+
+said_at : (ws : List Wrote) (p : ℕ) (x : Wrote) (e : EnvelopeOf) → slice_get ws p ≡ Some x → x.writing ≡ Sends e
+    → (slice_get (all_said sends_said ws) (length (all_said sends_said (take p ws))) ≡ Some e) × (length (all_said sends_said (take (p + 1) ws)) ≡ length (all_said sends_said (take p ws)) + 1)
+said_at ws p x e h k = (let r = said_from ws p x e h k in (r.0, ap (λ (n : ℕ). length (all_said sends_said (take n ws))) (next_is p) ∙ r.1))
 
 -- ---- the next message
 
@@ -164,6 +174,7 @@ module _ (nobody : UniqueAddress) (u : ℕ) (given : ℕ → ℕ) (n : Node whol
       let F : Conn → Type 0 = λ z. InFacts n.me (name_by nobody z.dialer ls) (given k) (stories_of n (name_by nobody z.dialer ls)) ls i z in
       by (name_by nobody c.conn.dialer ls) refl (subst F same y.facts)
     where
+      f : ConnFacts cs (name_by nobody c.conn.dialer ls) (name_by nobody c.conn.far ls) ls c.conn
       f = out.conns c.place c.conn c.is
 
       by : (a : UniqueAddress) → name_by nobody c.conn.dialer ls ≡ a → InFacts n.me a (given k) (stories_of n a) ls i c.conn → Hears nobody u k (given k) p n v its_nonce e m cs ls
@@ -333,7 +344,7 @@ module _ (nobody : UniqueAddress) (u m : ℕ) (given : ℕ → ℕ) (k : ℕ) (m
                   record { had = y.facts.had; begun = y.facts.begun; state = y.facts.state; owed = y.facts.owed; got = now; fits = y.facts.fits; shown = y.facts.shown }
 
 module _ {nobody : UniqueAddress} {u m : ℕ} {given : ℕ → ℕ} where
-  got_told : (k : ℕ) (v : UniqueAddress) (its_nonce : Option ℕ) (message : Tell) (d : Work u m) → (d.deeds.ended ≡ None → Fitting nobody u m given k d.node.me v its_nonce message (given k) d.deeds.connections (journal d.deeds)) → Good nobody u given nowhere d.node d.deeds
+  pub got_told : (k : ℕ) (v : UniqueAddress) (its_nonce : Option ℕ) (message : Tell) (d : Work u m) → (d.deeds.ended ≡ None → Fitting nobody u m given k d.node.me v its_nonce message (given k) d.deeds.connections (journal d.deeds)) → Good nobody u given nowhere d.node d.deeds
       → Kept nobody u given nowhere d.deeds (tells_of (λ me. lines.Got me v its_nonce message) d).node (tells_of (λ me. lines.Got me v its_nonce message) d).deeds
   got_told k v its_nonce message d f g = on_cond (λ (w : Network). Kept nobody u given nowhere d.deeds d.node w) (is_none d.deeds.ended) (comes_out (outcomes.Line m (lines.Got d.node.me v its_nonce message)) d.deeds) d.deeds
       (λ t. got_live nobody u m given k d.node.me v its_nonce message d.node d.deeds refl (none_is d.deeds.ended t) (f (none_is d.deeds.ended t)) g)
