@@ -26,3 +26,4 @@ pub mod Asking
 pub mod Binding
 pub mod Frames
 pub mod Getting
+pub mod Adopting
