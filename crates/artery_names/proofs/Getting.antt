@@ -60,7 +60,7 @@ take_more [] s t h = not_some h
 take_more (x ∷ ts) zero t h = ap (λ (z : Told). z.message ∷ messages (take zero ts)) (some_same h)
 take_more (x ∷ ts) (suc s) t h = ap (λ l. x.message ∷ l) (take_more ts s t h)
 
-take_next : (ts : List Told) (s : ℕ) (t : Told) → slice_get ts s ≡ Some t → messages (take (s + 1) ts) ≡ messages (take s ts) ++ t.message ∷ []
+pub take_next : (ts : List Told) (s : ℕ) (t : Told) → slice_get ts s ≡ Some t → messages (take (s + 1) ts) ≡ messages (take s ts) ++ t.message ∷ []
 take_next ts s t h = ap (λ (n : ℕ). messages (take n ts)) (next_is s) ∙ take_more ts s t h
 
 drop_next : (P : Told → Type 0) (ts : List Told) (s : ℕ) (t : Told) → slice_get ts s ≡ Some t → Each P (drop s ts) → P t
@@ -73,7 +73,7 @@ rising_more [] s t r h = not_some h
 rising_more (x ∷ ts) zero t r h = subst (λ (y : Told). Each (λ (z : Told). AtMost y.numbers z.numbers) ts) (some_same h) r.0
 rising_more (x ∷ ts) (suc s) t r h = rising_more ts s t r.1 h
 
-rising_next : (ts : List Told) (s : ℕ) (t : Told) → AreRising ts → slice_get ts s ≡ Some t → Each (λ (z : Told). AtMost t.numbers z.numbers) (drop (s + 1) ts)
+pub rising_next : (ts : List Told) (s : ℕ) (t : Told) → AreRising ts → slice_get ts s ≡ Some t → Each (λ (z : Told). AtMost t.numbers z.numbers) (drop (s + 1) ts)
 rising_next ts s t r h = subst (λ (n : ℕ). Each (λ (z : Told). AtMost t.numbers z.numbers) (drop n ts)) (sym (next_is s)) (rising_more ts s t r h)
 
 written_at : (cs : List Conn) (near far : ℕ) (es : List EnvelopeOf) (ts : List Told) (s : ℕ) (e : EnvelopeOf) → AreWritten cs near far es ts → slice_get es s ≡ Some e → (t : Told) × (slice_get ts s ≡ Some t) × IsWritten cs near far e t
@@ -159,6 +159,12 @@ next_later nobody me v u k g p e m its_nonce w x l h =
 -- what a version means is the number that was told
 abbrev pub Shows : (Kind → Story) → OfKinds ℕ → Type 0
 Shows story numbers = (kind : Kind) (x : ℕ) → number_of (story kind) (version_of (of_kind kind numbers)) ≡ Some x → x ≡ of_kind kind numbers
+
+-- and still is later
+pub shows_later : (nobody me v : UniqueAddress) (u k g p : ℕ) (e : EnvelopeOf) (m : Meaning) (its_nonce : Option ℕ) (story : Kind → Story) (w x : Network) → Later nobody u w x → (h : Next nobody me v u k g p e m its_nonce w.connections (journal w)) → Shows story h.told.numbers
+    → (n : Next nobody me v u k g p e m its_nonce x.connections (journal x)) × Shows story n.told.numbers
+unfolding next_later
+shows_later nobody me v u k g p e m its_nonce story w x l h s = (next_later nobody me v u k g p e m its_nonce w x l h, s)
 
 -- What a frame with an ordinary message says to a node that knows who speaks.
 pub record Hears (nobody : UniqueAddress) (u k g p : ℕ) (n : Node whole) (v : UniqueAddress) (its_nonce : Option ℕ) (e : EnvelopeOf) (m : Meaning) (cs : List Conn) (ls : List Line) : Type 0 where

@@ -27,3 +27,4 @@ pub mod Binding
 pub mod Frames
 pub mod Getting
 pub mod Adopting
+pub mod Shown
