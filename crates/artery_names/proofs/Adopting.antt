@@ -268,7 +268,7 @@ module _ {nobody : UniqueAddress} {u m : ℕ} {given : ℕ → ℕ} where
           (subst (λ (y : UniqueAddress). number ≤ of_kind kind (adopted_by d.node.me y (journal d.deeds))) (sym x.1) (f live))))) g
 
   -- it is adopted and told
-  table_kept : (v : UniqueAddress) (kind : Kind) (number : ℕ) (keys : List (List ℕ)) (values : List ℕ) (d : Work u m) → (d.deeds.ended ≡ None → Announced d.deeds.connections v.uid d.node.me.uid kind number keys) → values ≡ numbers_from 0 (length keys)
+  table_kept : (v : UniqueAddress) (kind : Kind) (number : ℕ) (keys : List (List ℕ)) (values : List ℕ) (d : Work u m) → (d.deeds.ended ≡ None → Announced d.deeds.connections v.uid d.node.me.uid kind number keys) → (d.deeds.ended ≡ None → values ≡ numbers_from 0 (length keys))
       → current_of (peer_at v.address d.node) ≡ Some v.uid → adopts_by number (of_kind kind (peer_at v.address d.node).tables).number ≡ adopting.Adopted → Good nobody u given nowhere d.node d.deeds
       → Kept nobody u given nowhere d.deeds (adopted_then v kind number keys values d).node (adopted_then v kind number keys values d).deeds
   table_kept v kind number keys values d a p now new g =
@@ -301,14 +301,14 @@ module _ {nobody : UniqueAddress} {u m : ℕ} {given : ℕ → ℕ} where
           record {
             good = record {
               lawful = subst IsLawful (sym is) (silent_lawful l (journal d.deeds) refl g.lawful);
-              out = λ x. subst (Out nobody d.deeds.connections) (sym is) (out_adopted nobody u given v kind number keys values d.node d.deeds.connections (journal d.deeds) o h (a e) p now new);
-              node = λ x. subst (NodeFacts nobody u given nowhere k d.deeds.connections) (sym is) (node_adopted nobody u given v kind number keys values d.node d.deeds.connections (journal d.deeds) o h (a e) p now new);
+              out = λ x. subst (Out nobody d.deeds.connections) (sym is) (out_adopted nobody u given v kind number keys values d.node d.deeds.connections (journal d.deeds) o h (a e) (p e) now new);
+              node = λ x. subst (NodeFacts nobody u given nowhere k d.deeds.connections) (sym is) (node_adopted nobody u given v kind number keys values d.node d.deeds.connections (journal d.deeds) o h (a e) (p e) now new);
             };
             later = record {
               conns = along_self (Stepped u) (stepped_self u) d.deeds.connections;
               name = λ uid. ap (name_by nobody uid) is;
-              adopted = λ x y z. ap (adopted_by x y) is ∙ adopted_away nobody u given v kind number keys values d.node d.deeds.connections (journal d.deeds) o h (a e) p now new x y (λ q r. z (ap (λ (s : UniqueAddress). s.uid) q ∙ h.uid));
-              rises = λ x y. subst (λ ks. AtMost (adopted_by x y (journal d.deeds)) (adopted_by x y ks)) (sym is) (adopted_rises nobody u given v kind number keys values d.node d.deeds.connections (journal d.deeds) o h (a e) p now new x y);
+              adopted = λ x y z. ap (adopted_by x y) is ∙ adopted_away nobody u given v kind number keys values d.node d.deeds.connections (journal d.deeds) o h (a e) (p e) now new x y (λ q r. z (ap (λ (s : UniqueAddress). s.uid) q ∙ h.uid));
+              rises = λ x y. subst (λ ks. AtMost (adopted_by x y (journal d.deeds)) (adopted_by x y ks)) (sym is) (adopted_rises nobody u given v kind number keys values d.node d.deeds.connections (journal d.deeds) o h (a e) (p e) now new x y);
               got = λ x y z q. ap (got_by x y z) is;
               told = λ x y z. no_more _ _ _ (ap (told_by x y z) is);
               spoken = λ x y z. First (ap (told_by x y z) is);
@@ -318,11 +318,11 @@ module _ {nobody : UniqueAddress} {u m : ℕ} {given : ℕ → ℕ} where
 
 -- ---- a table came
 
--- This table was announced to the node by that one.
-abbrev pub tabling : (nobody : UniqueAddress) (u : ℕ) (v : UniqueAddress) (kind : Kind) (number : ℕ) (keys : List (List ℕ)) → Premise nobody u
-tabling nobody u v kind number keys = record {
-  holds = λ w. w.ended ≡ None → Announced w.connections v.uid u kind number keys;
-  stays = λ w x l h live. announced_grows w.connections x.connections (along_grown u w.connections x.connections l.conns) v.uid u kind number keys (h (l.going live));
+-- This table was announced to the node by that one, with its names in their places.
+abbrev pub tabling : (nobody : UniqueAddress) (u : ℕ) (v : UniqueAddress) (kind : Kind) (number : ℕ) (keys : List (List ℕ)) (values : List ℕ) → Premise nobody u
+tabling nobody u v kind number keys values = record {
+  holds = λ w. w.ended ≡ None → Announced w.connections v.uid u kind number keys × (values ≡ numbers_from 0 (length keys));
+  stays = λ w x l h live. (let k = h (l.going live) in (announced_grows w.connections x.connections (along_grown u w.connections x.connections l.conns) v.uid u kind number keys k.0, k.1));
 }
 
 now_is : (v : UniqueAddress) (i : PeerState) → is_current v.uid i ≡ true → i.current ≡ Some v.uid
@@ -357,31 +357,31 @@ module _ {nobody : UniqueAddress} {u m : ℕ} {given : ℕ → ℕ} where
       let a : (of_kind kind (peer_at v.address d.node).tables).number ≡ of_kind kind (adopted_by d.node.me v (journal d.deeds)) = (held kind).number in
       let b : number ≡ (of_kind kind (peer_at v.address d.node).tables).number = adopting_same number (of_kind kind (peer_at v.address d.node).tables).number same_one in omega arith)) g
 
-  adopts_kept : (conn : ℕ) (v : UniqueAddress) (kind : Kind) (number : ℕ) (keys : List (List ℕ)) (values : List ℕ) (d : Work u m) → (tabling nobody u v kind number keys).holds d.deeds → values ≡ numbers_from 0 (length keys)
+  adopts_kept : (conn : ℕ) (v : UniqueAddress) (kind : Kind) (number : ℕ) (keys : List (List ℕ)) (values : List ℕ) (d : Work u m) → (tabling nobody u v kind number keys values).holds d.deeds
       → current_of (peer_at v.address d.node) ≡ Some v.uid → Good nobody u given nowhere d.node d.deeds → Kept nobody u given nowhere d.deeds (adopts conn v kind number keys values d).node (adopts conn v kind number keys values d).deeds
-  adopts_kept conn v kind number keys values d a p now g = by (adopts_by number (of_kind kind (peer_at v.address d.node).tables).number) refl
+  adopts_kept conn v kind number keys values d a now g = by (adopts_by number (of_kind kind (peer_at v.address d.node).tables).number) refl
     where
       by : (x : Adopting) → adopts_by number (of_kind kind (peer_at v.address d.node).tables).number ≡ x → Kept nobody u given nowhere d.deeds (adopts_as conn v kind number keys values x d).node (adopts_as conn v kind number keys values x d).deeds
       by adopting.Older e = (drops_keep conn rules.OldTable).on d g
       by adopting.Same e = again_kept v kind number d now e g
       by adopting.Adopted e =
           let d1 : Work u m = adopted_then v kind number keys values d in
-          let k : Kept nobody u given nowhere d.deeds d1.node d1.deeds = table_kept v kind number keys values d (λ live. subst (λ (x : ℕ). Announced d.deeds.connections v.uid x kind number keys) (sym (g.node live).uid) (a live)) p now e g in
+          let k : Kept nobody u given nowhere d.deeds d1.node d1.deeds = table_kept v kind number keys values d (λ live. subst (λ (x : ℕ). Announced d.deeds.connections v.uid x kind number keys) (sym (g.node live).uid) (a live).0) (λ live. (a live).1) now e g in
           kept_then nobody u given nowhere d.deeds d1.deeds (acknowledges_table kind v number d1).deeds d1.node (acknowledges_table kind v number d1).node k
           (acked_kept kind v number d1 (λ live. number_now v kind number keys values d (k.later.going live)) k.good)
 
-  pub tabled_keeps : (conn : ℕ) (v : UniqueAddress) (kind : Kind) (uid number : ℕ) (keys : List (List ℕ)) (values : List ℕ) → values ≡ numbers_from 0 (length keys)
-      → KeepsIf nobody u m given (tabling nobody u v kind number keys) (tabled conn v kind uid number keys values)
-  tabled_keeps conn v kind uid number keys values p = record {
+  pub tabled_keeps : (conn : ℕ) (v : UniqueAddress) (kind : Kind) (uid number : ℕ) (keys : List (List ℕ)) (values : List ℕ)
+      → KeepsIf nobody u m given (tabling nobody u v kind number keys values) (tabled conn v kind uid number keys values)
+  tabled_keeps conn v kind uid number keys values = record {
     on = λ d a g. (if_keeps_if (uid == d.node.me.uid) (of_current conn v (adopts conn v kind number keys values)) (drops conn rules.NotMe) current (always_keeps _ (drops_keep conn rules.NotMe))).on d a g;
   }
     where
-      by : (d : Work u m) → (tabling nobody u v kind number keys).holds d.deeds → Good nobody u given nowhere d.node d.deeds → (b : Bool) → is_now v d.node ≡ b
+      by : (d : Work u m) → (tabling nobody u v kind number keys values).holds d.deeds → Good nobody u given nowhere d.node d.deeds → (b : Bool) → is_now v d.node ≡ b
           → Kept nobody u given nowhere d.deeds (cond b (adopts conn v kind number keys values) (drops conn rules.NotCurrent) d).node (cond b (adopts conn v kind number keys values) (drops conn rules.NotCurrent) d).deeds
-      by d a g true e = adopts_kept conn v kind number keys values d a p (now_is v (peer_at v.address d.node).incarnations e) g
+      by d a g true e = adopts_kept conn v kind number keys values d a (now_is v (peer_at v.address d.node).incarnations e) g
       by d a g false e = (drops_keep conn rules.NotCurrent).on d g
 
-      current : KeepsIf nobody u m given (tabling nobody u v kind number keys) (of_current conn v (adopts conn v kind number keys values))
+      current : KeepsIf nobody u m given (tabling nobody u v kind number keys values) (of_current conn v (adopts conn v kind number keys values))
       current = record { on = λ d a g. by d a g (is_now v d.node) refl }
 
   -- ---- a table is confirmed

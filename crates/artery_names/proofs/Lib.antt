@@ -28,3 +28,5 @@ pub mod Frames
 pub mod Getting
 pub mod Adopting
 pub mod Shown
+pub mod Hearing
+pub mod Handling

@@ -36,7 +36,7 @@ use Rattle.artery_names.proofs.Premises.{kept_then}
 use Rattle.artery_names.proofs.Frames.{IsOrdinary, then_given, Comes, comes_good, one_inward}
 use Rattle.artery_names.proofs.Getting.{Next, shows_later, Shows, Hears, hears_next, Fitting, got_told, rising_next, take_next}
 
-then_here : (given : ℕ → ℕ) (k g : ℕ) → then_given given k g k ≡ g
+pub then_here : (given : ℕ → ℕ) (k g : ℕ) → then_given given k g k ≡ g
 then_here given k g = ap (λ (b : Bool). cond b g (given k)) (eq_self k)
 
 -- ---- what is told fits
