@@ -30,3 +30,4 @@ pub mod Adopting
 pub mod Shown
 pub mod Hearing
 pub mod Handling
+pub mod Giving
