@@ -31,3 +31,4 @@ pub mod Shown
 pub mod Hearing
 pub mod Handling
 pub mod Giving
+pub mod Ticking
