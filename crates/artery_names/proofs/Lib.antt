@@ -32,3 +32,5 @@ pub mod Hearing
 pub mod Handling
 pub mod Giving
 pub mod Ticking
+pub mod Reacting
+pub mod Streams
