@@ -34,3 +34,4 @@ pub mod Giving
 pub mod Ticking
 pub mod Reacting
 pub mod Streams
+pub mod Worlds
