@@ -35,3 +35,5 @@ pub mod Ticking
 pub mod Reacting
 pub mod Streams
 pub mod Worlds
+pub mod Starting
+pub mod Joining
