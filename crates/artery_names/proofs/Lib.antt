@@ -37,3 +37,4 @@ pub mod Streams
 pub mod Worlds
 pub mod Starting
 pub mod Joining
+pub mod Playing

@@ -10,7 +10,7 @@ pub fn a_version_means_one_number()
         → number_of story (version_of meant) ≡ Some found → found ≡ meant }
 {}
 
-#[tactic(auto, using(crate::proofs::Meant::message_told, crate::proofs::Settling::advertised_good, crate::proofs::Talking::tells_message_keeps, crate::proofs::Sending::acts_keep, crate::proofs::Asking::requested_keeps, crate::proofs::Binding::answered_keeps, crate::proofs::Frames::ordinary_is, crate::proofs::Getting::got_told, crate::proofs::Adopting::acked_kept, crate::proofs::Shown::got_keeps, crate::proofs::Hearing::frame_grows, crate::proofs::Handling::hears_kept, crate::proofs::Giving::with_good, crate::proofs::Ticking::ticks_kept, crate::proofs::Reacting::reacts_kept, crate::proofs::Streams::carries_so, crate::proofs::Worlds::gives_both, crate::proofs::Starting::starts_both, crate::proofs::Joining::joins_names))]
+#[tactic(auto, using(crate::proofs::Meant::message_told, crate::proofs::Settling::advertised_good, crate::proofs::Talking::tells_message_keeps, crate::proofs::Sending::acts_keep, crate::proofs::Asking::requested_keeps, crate::proofs::Binding::answered_keeps, crate::proofs::Frames::ordinary_is, crate::proofs::Getting::got_told, crate::proofs::Adopting::acked_kept, crate::proofs::Shown::got_keeps, crate::proofs::Hearing::frame_grows, crate::proofs::Handling::hears_kept, crate::proofs::Giving::with_good, crate::proofs::Ticking::ticks_kept, crate::proofs::Reacting::reacts_kept, crate::proofs::Streams::carries_so, crate::proofs::Worlds::gives_both, crate::proofs::Starting::starts_both, crate::proofs::Joining::joins_names, crate::proofs::Playing::run_both))]
 pub fn probe(n: u8)
     ensures { n ≡ n }
 {}
