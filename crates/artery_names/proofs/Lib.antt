@@ -38,3 +38,4 @@ pub mod Worlds
 pub mod Starting
 pub mod Joining
 pub mod Playing
+pub mod Ordinary
