@@ -1,5 +1,5 @@
 -- A table is adopted and told at once, and acknowledged: the facts stay true.
-use Rattle.std.proofs.Common.{◌≡◌, ℕ, zero, suc, ◌+◌, ◌≤◌, ◌<◌, Bool, true, false, ◌&&◌, cond, List, [], ◌∷◌, length, refl, sym, ◌∙◌, ap, subst, arith}
+use Rattle.std.proofs.Common.{◌≡◌, ℕ, zero, suc, ◌+◌, ◌≤◌, ◌<◌, Bool, true, false, cond, List, [], ◌∷◌, length, refl, sym, ◌∙◌, ap, subst, arith}
 use Rattle.std.proofs.Math.Nat.{div-add-mod}
 use Rattle.std.specs.Prelude.{Option, None, Some, ◌==◌, ◌%◌, ◌/◌, ◌*◌, nat_lt, nat_le, is_none, slice_get}
 use Rattle.std.specs.List.{find, zip}
@@ -7,7 +7,6 @@ use Rattle.std.proofs.lemmas.Bool.Decides.{nat_tests}
 use Rattle.artery_base.specs.declared.address.Address.{Address}
 use Rattle.artery_base.specs.declared.address.UniqueAddress.{UniqueAddress}
 use Rattle.artery_assoc.specs.Peer.{PeerState, is_that, is_current}
-use Rattle.artery_control.specs.declared.control.Control.TheVariants as controls
 use Rattle.artery_frame.specs.declared.stream.Stream.TheVariants as streams
 use Rattle.artery_handshake.specs.declared.out_conn.OutConn.{OutConn}
 use Rattle.artery_handshake.specs.declared.out_conn.OutState.{OutState}
@@ -29,23 +28,23 @@ use Rattle.artery_machine.specs.Lists.{or_else, change_first}
 use Rattle.artery_machine.specs.Deeds.{Controls}
 use Rattle.artery_machine.specs.Parts.{whole}
 use Rattle.artery_machine.specs.Connections.{is_dialed}
-use Rattle.artery_machine.specs.Node.{Node, Peer, Inbound, OfKinds, of_kind, change_kind, same_address, incarnation, is_peer, new_peer, peer_at, origin_at, current_of, conn_of, bound_dial, dial_to, inbound_at}
+use Rattle.artery_machine.specs.Node.{Node, Peer, OfKinds, of_kind, change_kind, same_address, incarnation, is_peer, new_peer, peer_at, origin_at, current_of, conn_of, bound_dial, dial_to}
 use Rattle.artery_machine.specs.Doing.{Rule, ◌▸◌, tells_of, peer_becomes}
 use Rattle.artery_machine.specs.Closing.{control_dial}
 use Rattle.artery_machine.specs.Handshaking.{drops}
-use Rattle.artery_machine.specs.Hearing.{sequence_of, table_number, table_ack, with_adopted, is_now, of_current, acknowledges_table, adopts_as, adopts, tabled, confirms_as, confirms, with_confirmed}
+use Rattle.artery_machine.specs.Hearing.{sequence_of, table_number, table_ack, with_adopted, is_now, of_current, acknowledges_table, adopts_as, adopts, tabled, confirms_as, confirms}
 use Rattle.artery_machine.specs.Ticking.{numbers_from}
-use Rattle.artery_machine.specs.World.{going_on, comes_out, does as does_outside}
-use Rattle.artery_names.proofs.Lists.{by_test, none_is, on_cond, not_both, not_some, some_same, eq_true, eq_self, and_left, and_right, and_both, Each, each_weaker, Or, First, Second}
+use Rattle.artery_machine.specs.World.{comes_out}
+use Rattle.artery_names.proofs.Lists.{by_test, none_is, on_cond, not_both, not_some, some_same, eq_true, eq_self, and_left, and_right, and_both, each_weaker, First, Second}
 use Rattle.artery_names.proofs.Said.{Acking}
 use Rattle.artery_names.proofs.Talks.{Told, adopted_by, told_by, got_by, name_by, newest_line}
-use Rattle.artery_names.proofs.Facts.{Network, Conn, journal, acks_on, Announced, AtMost, TalkFacts, ConnFacts, IsLawful, IsAnnounced, Out, IsHeld, Holds, AreHeld, BoundTo, IsBound, bound_as, bound_in, PeerFacts, stories_of, story_of, Heard, NodeFacts, Good}
-use Rattle.artery_names.proofs.Growing.{Grown, grown_self, Stepped, stepped_self, Along, along_self, announced_grows}
+use Rattle.artery_names.proofs.Facts.{Network, Conn, journal, acks_on, Announced, AtMost, IsLawful, IsAnnounced, Out, IsHeld, Holds, AreHeld, BoundTo, IsBound, bound_as, bound_in, PeerFacts, stories_of, story_of, Heard, NodeFacts, Good}
+use Rattle.artery_names.proofs.Growing.{Grown, grown_self, Stepped, stepped_self, along_self, announced_grows}
 use Rattle.artery_names.proofs.Plain.{bound_grows, all_held_grow}
 use Rattle.artery_names.proofs.Outside.{outward, silent_lawful}
 use Rattle.artery_names.proofs.Rules.{Work}
-use Rattle.artery_names.proofs.Later.{Later, later_self, along_grown, at_most_trans, no_more, in_talk}
-use Rattle.artery_names.proofs.Keeping.{nowhere, Kept, kept_self, plain_keeps}
+use Rattle.artery_names.proofs.Later.{later_self, along_grown, at_most_trans, no_more, in_talk}
+use Rattle.artery_names.proofs.Keeping.{nowhere, Kept}
 use Rattle.artery_names.proofs.Peers.{address_self, on_changed}
 use Rattle.artery_names.proofs.Telling.{same_is, same_self}
 use Rattle.artery_names.proofs.Writes.{May, write_kept}

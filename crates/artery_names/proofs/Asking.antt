@@ -1,6 +1,6 @@
 -- Dials that are up, and handshake requests: they are asked and answered.
-use Rattle.std.proofs.Common.{◌≡◌, ℕ, ◌+◌, ◌≤◌, ◌<◌, Bool, true, false, ◌&&◌, cond, List, [], ◌∷◌, ◌++◌, map, refl, sym, ◌∙◌, ap, subst, arith}
-use Rattle.std.specs.Prelude.{Option, None, Some, ◌==◌, not, ◌||◌, nat_lt, slice_get}
+use Rattle.std.proofs.Common.{◌≡◌, ℕ, ◌+◌, ◌≤◌, ◌<◌, Bool, true, false, cond, List, [], ◌∷◌, ◌++◌, refl, sym, ◌∙◌, ap, subst, arith}
+use Rattle.std.specs.Prelude.{Option, None, Some, ◌==◌, not, slice_get}
 use Rattle.std.specs.List.{find}
 use Rattle.std.proofs.lemmas.Bool.Decides.{nat_tests}
 use Rattle.artery_base.specs.declared.address.Address.{Address}
@@ -21,22 +21,21 @@ use Rattle.artery_machine.specs.declared.link.Answer.{Answer}
 use Rattle.artery_machine.specs.Lists.{or_else, change_first}
 use Rattle.artery_machine.specs.Deeds.{Begins, Controls, Writes, Hangs}
 use Rattle.artery_machine.specs.Parts.{whole}
-use Rattle.artery_machine.specs.Connections.{is_dialed, is_inward}
-use Rattle.artery_machine.specs.Node.{Node, Peer, Inbound, Origin, of_kind, same_address, same_unique, new_origin, is_origin, has_origin, is_number, inbound_at, peer_at, address_of, conn_of, with_link, peer_dialed, stream_dialed, dial_asked}
-use Rattle.artery_machine.specs.Doing.{Rule, ◌▸◌, stays, where_true, does, becomes, tells_of, inbound_becomes, peer_becomes, each}
-use Rattle.artery_machine.specs.Making.{makes_missing, uses, loses}
+use Rattle.artery_machine.specs.Connections.{is_inward}
+use Rattle.artery_machine.specs.Node.{Node, Peer, Inbound, Origin, of_kind, same_address, same_unique, new_origin, is_origin, has_origin, is_number, inbound_at, peer_at, address_of, conn_of, peer_dialed, stream_dialed, dial_asked}
+use Rattle.artery_machine.specs.Doing.{Rule, ◌▸◌, where_true, does, becomes, inbound_becomes, each}
+use Rattle.artery_machine.specs.Making.{makes_missing, uses}
 use Rattle.artery_machine.specs.Handshaking.{answer_to, response, change_conn, waits_for_dial, owes_no_answer, with_origin, known_as, owing, asks_on, writes_answer, answers_owed, answers_all, answers_after, begins, dialed_of, dialed, lost_of, lost, makes_origin, answers_on, answers, is_asked, drops, drops_or, request_rule, requested}
-use Rattle.artery_names.proofs.Lists.{by_test, not_both, not_some, some_same, eq_true, eq_self, eq_not, and_left, and_right, and_both, Each, each_weaker, Or, First, Second}
+use Rattle.artery_names.proofs.Lists.{not_some, some_same, eq_true, eq_self, eq_not, and_left, and_right, Each, each_weaker}
 use Rattle.artery_names.proofs.Said.{Answering, answers_by}
-use Rattle.artery_names.proofs.Talks.{Told, told_by, name_by}
-use Rattle.artery_names.proofs.Facts.{Network, Conn, journal, answers_on as answers_said_on, Out, IsState, IsKnown, IsOwed, MayOwe, InFacts, Heard, stories_of, story_of, numbers_in, Rises, NodeFacts, Good}
+use Rattle.artery_names.proofs.Talks.{told_by, name_by}
+use Rattle.artery_names.proofs.Facts.{Network, Conn, journal, answers_on as answers_said_on, Out, IsState, IsKnown, IsOwed, MayOwe, InFacts, Heard, stories_of, numbers_in, Rises, NodeFacts, Good}
 use Rattle.artery_names.proofs.Growing.{Grown, dialed_same, inward_same, Along}
 use Rattle.artery_names.proofs.Plain.{Same, Gone, StillHeard, SameNode, same_node}
 use Rattle.artery_names.proofs.Outside.{outward, begins_plain}
-use Rattle.artery_names.proofs.Rules.{Work, Plain, ◌▹◌, numbers_same, stays_plain, deed_plain, tells_plain, where_plain, becomes_plain, inbound_plain}
+use Rattle.artery_names.proofs.Rules.{Work, Plain, numbers_same, deed_plain, tells_plain, where_plain, becomes_plain, inbound_plain}
 use Rattle.artery_names.proofs.Later.{Later, later_self, along_grown}
 use Rattle.artery_names.proofs.Keeping.{nowhere, Kept, kept_self, Keeps, ◌▻◌, plain_keeps, stays_keep, if_keeps}
-use Rattle.artery_names.proofs.Peers.{unique_is}
 use Rattle.artery_names.proofs.Silence.{silent}
 use Rattle.artery_names.proofs.Making.{dialed_less, link_plain, makes_missing_plain, uses_plain, loses_plain}
 use Rattle.artery_names.proofs.Writes.{IsOpened, write_kept}

@@ -1,5 +1,5 @@
 -- Answers to handshakes: connections are bound, and UIDs are learnt.
-use Rattle.std.proofs.Common.{◌≡◌, ℕ, ◌+◌, Bool, true, false, ◌&&◌, cond, List, [], ◌∷◌, ◌++◌, length, refl, sym, ◌∙◌, ap, subst, append-nil}
+use Rattle.std.proofs.Common.{◌≡◌, ℕ, ◌+◌, Bool, true, false, ◌&&◌, cond, List, [], ◌∷◌, ◌++◌, refl, sym, ◌∙◌, ap, subst, append-nil}
 use Rattle.std.specs.Prelude.{Option, None, Some, ◌==◌, ◌||◌, not, is_some, is_none, option_to_list, slice_get}
 use Rattle.std.specs.List.{find}
 use Rattle.artery_base.specs.declared.address.Address.{Address}
@@ -17,7 +17,7 @@ use Rattle.artery_handshake.specs.declared.out_conn.OutState.{OutState}
 use Rattle.artery_handshake.specs.declared.out_conn.OutState.TheVariants.{Dialing, Asked, Bound}
 use Rattle.artery_handshake.specs.declared.out_conn.OnRsp.{OnRsp}
 use Rattle.artery_handshake.specs.declared.out_conn.OnRsp.TheVariants.{Bind, Repeat, Stray}
-use Rattle.artery_handshake.specs.Outgoing.{is_meant, answer_in, answer_to_rsp, state_after_rsp, conn_answered}
+use Rattle.artery_handshake.specs.Outgoing.{is_meant, answer_in, state_after_rsp, conn_answered}
 use Rattle.artery_journal.specs.declared.line.Line.{Line}
 use Rattle.artery_journal.specs.declared.line.Line.TheVariants as lines
 use Rattle.artery_journal.specs.declared.words.Cause.TheVariants as causes
@@ -28,22 +28,21 @@ use Rattle.artery_machine.specs.declared.link.Link.{Link}
 use Rattle.artery_machine.specs.Lists.{or_else, change_first}
 use Rattle.artery_machine.specs.Parts.{whole}
 use Rattle.artery_machine.specs.Connections.{is_dialed}
-use Rattle.artery_machine.specs.Node.{Node, Peer, Origin, OfKinds, of_kind, of_each, incarnation, is_peer, new_peer, peer_at, current_of, conn_of, link_of, with_link, origin_at, dialed_as, stream_dialed}
-use Rattle.artery_machine.specs.Doing.{Rule, ◌▸◌, stays, where_true, tells_of, peer_becomes, origin_becomes, each}
+use Rattle.artery_machine.specs.Node.{Node, Peer, OfKinds, of_kind, of_each, incarnation, is_peer, new_peer, peer_at, current_of, conn_of, with_link, origin_at, dialed_as, stream_dialed}
+use Rattle.artery_machine.specs.Doing.{◌▸◌, stays, tells_of, peer_becomes, origin_becomes, each}
 use Rattle.artery_machine.specs.Making.{dials, uses}
 use Rattle.artery_machine.specs.Closing.{dial_of, on_control, closes_current}
-use Rattle.artery_machine.specs.Sending.{without_held, rewinds, pumps, tells_sent, tells_told, tells_on, tells_held}
-use Rattle.artery_machine.specs.Handshaking.{change_conn, answer_on, is_met, quiet_now, with_learnt, owes_no_ack, ordinary_dial, answer_at, gives_up, tells_all_sent, tells_waiting, writes_owed_ack, dials_ordinary, goes_on, learns_new, learns_as, learns, strays, binds_ordinary, binds, answered_as, takes_answer, answered_by, answered_to, strays_unless, then_ordinary, answered_plainly, answered}
-use Rattle.artery_names.proofs.Lists.{by_test, none_is, not_both, not_some, some_same, eq_true, eq_self, and_left, and_right}
+use Rattle.artery_machine.specs.Sending.{without_held, tells_told, tells_on}
+use Rattle.artery_machine.specs.Handshaking.{change_conn, answer_on, is_met, quiet_now, with_learnt, owes_no_ack, ordinary_dial, answer_at, tells_all_sent, tells_waiting, writes_owed_ack, dials_ordinary, goes_on, learns_new, learns_as, learns, strays, binds_ordinary, binds, answered_as, takes_answer, answered_by, answered_to, strays_unless, then_ordinary, answered_plainly, answered}
+use Rattle.artery_names.proofs.Lists.{by_test, none_is, not_both, not_some, some_same, eq_true, and_left, and_right}
 use Rattle.artery_names.proofs.Talks.{adopted_by, name_by}
-use Rattle.artery_names.proofs.Facts.{Network, Conn, journal, Answered, Made, IsHeld, Holds, AreHeld, BoundTo, IsBound, bound_as, bound_in, PeerFacts, NodeFacts, Good}
+use Rattle.artery_names.proofs.Facts.{Network, Conn, journal, Answered, Made, Holds, AreHeld, BoundTo, IsBound, bound_as, bound_in, PeerFacts, NodeFacts, Good}
 use Rattle.artery_names.proofs.Growing.{Grown, Along, answered_grows, made_grows, dialed_same}
 use Rattle.artery_names.proofs.Plain.{Same}
-use Rattle.artery_names.proofs.Outside.{outward}
-use Rattle.artery_names.proofs.Rules.{Work, Plain, ◌▹◌, SamePeer, stays_plain, tells_plain, where_plain, origin_plain, each_plain}
-use Rattle.artery_names.proofs.Later.{Later, later_self, along_grown}
+use Rattle.artery_names.proofs.Rules.{Work, Plain, ◌▹◌, SamePeer, stays_plain, tells_plain, where_plain, origin_plain}
+use Rattle.artery_names.proofs.Later.{Later, along_grown}
 use Rattle.artery_names.proofs.Keeping.{nowhere, Kept, kept_self, Keeps, ◌▻◌, plain_keeps, stays_keep}
-use Rattle.artery_names.proofs.Peers.{address_is, address_self, on_changed}
+use Rattle.artery_names.proofs.Peers.{address_self, on_changed}
 use Rattle.artery_names.proofs.Silence.{silent}
 use Rattle.artery_names.proofs.Making.{other_plain, uses_plain, gives_up_plain, control_plain, rewinds_plain, pumps_plain, tells_sent_plain, dials_plain}
 use Rattle.artery_names.proofs.Closing.{peers_change, closes_away, closes_current_kept}

@@ -1,15 +1,12 @@
 -- An incarnation is closed: its tables are gone; and a UID is learnt.
-use Rattle.std.proofs.Common.{◌≡◌, ℕ, ◌+◌, Bool, true, false, cond, List, [], ◌∷◌, ◌++◌, length, refl, sym, ◌∙◌, ap, subst, arith, append-nil}
-use Rattle.std.specs.Prelude.{Option, None, Some, ◌==◌, ◌||◌, nat_le, option_to_list}
+use Rattle.std.proofs.Common.{◌≡◌, ℕ, Bool, true, false, cond, List, [], ◌∷◌, ◌++◌, refl, sym, ◌∙◌, ap, subst}
+use Rattle.std.specs.Prelude.{Option, None, Some, ◌==◌, ◌||◌}
 use Rattle.std.specs.List.{find}
 use Rattle.artery_base.specs.declared.address.Address.{Address}
 use Rattle.artery_base.specs.declared.address.UniqueAddress.{UniqueAddress}
-use Rattle.artery_assoc.specs.Limits.{most_incarnations}
-use Rattle.artery_assoc.specs.Peer.{PeerState, is_closed, is_that, closing, peer_after_close, peer_closed, learning, peer_after_learn, peer_learnt}
+use Rattle.artery_assoc.specs.Peer.{PeerState, is_closed, is_that, closing, peer_after_close, peer_closed}
 use Rattle.artery_assoc.specs.declared.peer.Close.{Close}
 use Rattle.artery_assoc.specs.declared.peer.Close.TheVariants.{Closed, AlreadyClosed, NotCurrent}
-use Rattle.artery_assoc.specs.declared.peer.Learn.{Learn}
-use Rattle.artery_assoc.specs.declared.peer.Learn.TheVariants.{Learnt, Same as IsSame, WasClosed, ClosedFull}
 use Rattle.artery_journal.specs.declared.line.Line.{Line}
 use Rattle.artery_journal.specs.declared.line.Line.TheVariants as lines
 use Rattle.artery_journal.specs.declared.words.Cause.{Cause}
@@ -18,17 +15,15 @@ use Rattle.artery_machine.specs.Lists.{or_else, change_first}
 use Rattle.artery_machine.specs.Parts.{whole}
 use Rattle.artery_machine.specs.Node.{Node, Peer, same_address, is_peer, new_peer, peer_at, current_of, incarnation, of_each}
 use Rattle.artery_machine.specs.Doing.{Rule, ◌▸◌, stays, becomes, tells_of, peer_becomes, each}
-use Rattle.artery_machine.specs.Closing.{is_told, without_detector, with_closed, with_new_tables, quarantines, drops_ordinary, forgets_watches_of, ends_watches_at, terminates_at, closes, closes_current}
-use Rattle.artery_names.proofs.Lists.{by_test, not_both, not_some, some_same, eq_self}
-use Rattle.artery_names.proofs.Talks.{adopted_by}
+use Rattle.artery_machine.specs.Closing.{is_told, without_detector, with_closed, with_new_tables, quarantines, drops_ordinary, forgets_watches_of, terminates_at, closes, closes_current}
+use Rattle.artery_names.proofs.Lists.{not_both, not_some, eq_self}
 use Rattle.artery_names.proofs.Facts.{Network, Conn, journal, AreHeld, PeerFacts, NodeFacts, Good}
-use Rattle.artery_names.proofs.Plain.{Same, Plainly, plainly_self}
+use Rattle.artery_names.proofs.Plain.{Same}
 use Rattle.artery_names.proofs.Outside.{outward}
-use Rattle.artery_names.proofs.Rules.{Work, Plain, ◌▹◌, SameKept, kept_plain, stays_plain, tells_plain, if_plain, each_plain}
-use Rattle.artery_names.proofs.Later.{later_self, later_trans}
+use Rattle.artery_names.proofs.Rules.{Work, Plain, ◌▹◌, kept_plain, stays_plain, tells_plain, if_plain, each_plain}
 use Rattle.artery_names.proofs.Keeping.{nowhere, Kept, kept_self, plain_later, Keeps}
 use Rattle.artery_names.proofs.Keeping as keeping
-use Rattle.artery_names.proofs.Peers.{address_is, address_self, on_changed}
+use Rattle.artery_names.proofs.Peers.{address_self, on_changed}
 use Rattle.artery_names.proofs.Silence.{silent}
 use Rattle.artery_names.proofs.Making.{other_plain, quarantines_plain, drops_ordinary_plain}
 
@@ -46,15 +41,6 @@ close_address uid i = by (closing uid i)
     by Closed = refl
     by AlreadyClosed = refl
     by NotCurrent = refl
-
-learn_address : (uid : ℕ) (i : PeerState) → (peer_learnt uid i).address ≡ i.address
-learn_address uid i = by (learning uid i)
-  where
-    by : (x : Learn) → (peer_after_learn x uid i).address ≡ i.address
-    by (Learnt former) = refl
-    by IsSame = refl
-    by WasClosed = refl
-    by ClosedFull = refl
 
 -- a UID that is not among the closed ones and one more is not among them, and not that one
 pub record NotAmong (uid x : ℕ) (i : PeerState) : Type 0 where

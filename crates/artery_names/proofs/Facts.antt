@@ -1,12 +1,11 @@
 -- What holds of the outside of the nodes and of a node in it, of ordinary messages and tables.
 use Rattle.std.proofs.Common.{◌≡◌, ℕ, ◌+◌, ◌≤◌, Bool, true, false, List, [], ◌∷◌, ◌++◌, length, take, drop, map}
-use Rattle.std.specs.Prelude.{Option, None, Some, ◌==◌, slice_get}
+use Rattle.std.specs.Prelude.{Option, None, Some, slice_get}
 use Rattle.std.specs.List.{zip}
 use Rattle.artery_base.specs.declared.address.Address.{Address}
 use Rattle.artery_base.specs.declared.address.UniqueAddress.{UniqueAddress}
 use Rattle.artery_base.specs.declared.message.Tell.{Tell}
-use Rattle.artery_assoc.specs.Peer.{PeerState, is_closed, is_that}
-use Rattle.artery_frame.specs.declared.stream.Stream.{Stream}
+use Rattle.artery_assoc.specs.Peer.{is_closed, is_that}
 use Rattle.artery_frame.specs.declared.stream.Stream.TheVariants as streams
 use Rattle.artery_handshake.specs.declared.out_conn.OutConn.{OutConn}
 use Rattle.artery_handshake.specs.declared.out_conn.OutState.{OutState}
@@ -22,13 +21,13 @@ use Rattle.artery_tables.specs.OutTable.{State as Adopted}
 use Rattle.artery_judge.specs.Lines.{Way, says_got}
 use Rattle.artery_machine.specs.declared.link.Answer.{Answer}
 use Rattle.artery_machine.specs.Parts.{whole}
-use Rattle.artery_machine.specs.Ways.{Wrote, whole_ways}
+use Rattle.artery_machine.specs.Ways.{whole_ways}
 use Rattle.artery_machine.specs.Connections.{Connection, is_dialed, is_inward}
-use Rattle.artery_machine.specs.Node.{Node, Peer, Inbound, Origin, OfKinds, of_kind, of_each, incarnation, peer_at, inbound_at, origin_at}
+use Rattle.artery_machine.specs.Node.{Node, Peer, Inbound, OfKinds, of_kind, of_each, incarnation, peer_at, inbound_at, origin_at}
 use Rattle.artery_machine.specs.Ticking.{numbers_from}
 use Rattle.artery_machine.specs.World.{World}
 use Rattle.artery_names.specs.Versions.{Fits}
-use Rattle.artery_names.proofs.Lists.{Each, Or, First, Second, Within}
+use Rattle.artery_names.proofs.Lists.{Each, Or, Within}
 use Rattle.artery_names.proofs.Said.{Tabling, Acking, Answering, sends_said, tables_said, acks_said, answers_said, speakers_said, all_said, carried}
 use Rattle.artery_names.proofs.Talks.{Told, adopted_by, told_by, got_by, name_by, messages, newest}
 

@@ -1,7 +1,6 @@
 -- What a frame says to the node that hears it, and how many frames were given to it.
-use Rattle.std.proofs.Common.{◌≡◌, ℕ, zero, suc, ◌+◌, ◌≤◌, ◌<◌, Bool, true, false, ◌&&◌, cond, List, [], ◌∷◌, ◌++◌, length, take, drop, map, refl, sym, ◌∙◌, ap, subst, arith}
+use Rattle.std.proofs.Common.{◌≡◌, ℕ, zero, suc, ◌+◌, ◌≤◌, ◌<◌, Bool, true, false, cond, List, [], ◌∷◌, ◌++◌, length, take, drop, refl, sym, ◌∙◌, ap, subst, arith}
 use Rattle.std.specs.Prelude.{Option, None, Some, Result, Ok, Err, ℤ, ◌==◌, ◌||◌, is_some, slice_get}
-use Rattle.artery_base.specs.Words.{◌>>=◌}
 use Rattle.artery_base.specs.declared.address.UniqueAddress.{UniqueAddress}
 use Rattle.artery_base.specs.declared.message.Tell.{Tell}
 use Rattle.artery_codec.specs.declared.message.DropRule.{DropRule as CodecRule}
@@ -14,7 +13,7 @@ use Rattle.artery_frame.specs.declared.stream.Stream.{Stream}
 use Rattle.artery_frame.specs.declared.stream.Stream.TheVariants as streams
 use Rattle.artery_handshake.specs.declared.in_conn.InState.{InState}
 use Rattle.artery_header.specs.declared.envelope.Which.TheVariants.{Sender, Recipient, Manifest}
-use Rattle.artery_header.specs.Envelope.{EnvelopeOf, read_of}
+use Rattle.artery_header.specs.Envelope.{EnvelopeOf}
 use Rattle.artery_journal.specs.declared.line.Line.{Line}
 use Rattle.artery_journal.specs.declared.rule.Rule.{Rule}
 use Rattle.artery_journal.specs.declared.rule.Rule.TheVariants as rules
@@ -28,11 +27,10 @@ use Rattle.artery_machine.specs.Node.{Node, Inbound, OfKinds, of_kind, inbound_a
 use Rattle.artery_machine.specs.Verdict.{Content, Controls as SaysControl, Ordinary as SaysOrdinary, is_control_serializer, belongs, content_of, control_read, is_handshake, is_from, is_uid_of, unless_dropped, meaning_or_rule, meant, said_by, tables_for, envelope_said, read_said, content_in}
 use Rattle.artery_flight.specs.Flight.{is_frame, frame_of}
 use Rattle.artery_flight.specs.Answers.{IsReadBack}
-use Rattle.artery_names.specs.Versions.{Fits}
-use Rattle.artery_names.proofs.Lists.{by_test, not_both, not_some, some_same, eq_true, eq_self, and_left, and_right, Each, Within, within_more}
+use Rattle.artery_names.proofs.Lists.{by_test, not_both, some_same, eq_true, and_left, and_right, Each, Within, within_more}
 use Rattle.artery_names.proofs.Said.{all_said, sends_said, carried}
-use Rattle.artery_names.proofs.Talks.{Told, adopted_by, told_by, name_by, messages}
-use Rattle.artery_names.proofs.Facts.{Network, Conn, journal, Out, IsShown, IsKnown, InFacts, Heard, stories_of, sent_in, NodeFacts, Good}
+use Rattle.artery_names.proofs.Talks.{Told, adopted_by, told_by, messages}
+use Rattle.artery_names.proofs.Facts.{Network, Conn, journal, Out, IsShown, InFacts, Heard, stories_of, sent_in, NodeFacts, Good}
 use Rattle.artery_names.proofs.Meant.{ok_same, not_ok, then_ok, place_within}
 use Rattle.artery_names.proofs.Keeping.{nowhere}
 

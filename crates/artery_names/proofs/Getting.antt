@@ -1,54 +1,46 @@
 -- An ordinary message is got: it is the one that was told.
-use Rattle.std.proofs.Common.{◌≡◌, ℕ, zero, suc, ◌+◌, ◌≤◌, ◌<◌, Bool, true, false, ◌&&◌, cond, List, [], ◌∷◌, ◌++◌, length, take, drop, map, refl, sym, ◌∙◌, ap, subst, arith, append-nil}
-use Rattle.std.specs.Prelude.{Option, None, Some, Result, Ok, ◌==◌, is_none, slice_get}
-use Rattle.std.specs.Option.{option_or}
+use Rattle.std.proofs.Common.{◌≡◌, ℕ, zero, suc, ◌+◌, ◌≤◌, ◌<◌, Bool, true, false, ◌&&◌, cond, List, [], ◌∷◌, ◌++◌, length, take, drop, refl, sym, ◌∙◌, ap, subst, arith}
+use Rattle.std.specs.Prelude.{Option, None, Some, Ok, ◌==◌, is_none, slice_get}
 use Rattle.artery_base.specs.Words.{IsPrefix}
-use Rattle.artery_base.specs.declared.address.Address.{Address}
 use Rattle.artery_base.specs.declared.address.UniqueAddress.{UniqueAddress}
 use Rattle.artery_base.specs.declared.message.Tell.{Tell}
 use Rattle.artery_codec.specs.Meaning.{Meaning, envelope_meaning}
 use Rattle.artery_frame.specs.declared.stream.Stream.{Stream}
 use Rattle.artery_frame.specs.declared.stream.Stream.TheVariants as streams
 use Rattle.artery_handshake.specs.declared.in_conn.InState.{InState}
-use Rattle.artery_handshake.specs.declared.in_conn.InState.TheVariants.{Raw, Known}
-use Rattle.artery_header.specs.Envelope.{NameOf, Literal, Index, EnvelopeOf}
+use Rattle.artery_handshake.specs.declared.in_conn.InState.TheVariants.{Known}
+use Rattle.artery_header.specs.Envelope.{EnvelopeOf}
 use Rattle.artery_journal.specs.declared.line.Line.{Line}
 use Rattle.artery_journal.specs.declared.line.Line.TheVariants as lines
 use Rattle.artery_journal.specs.declared.words.Kind.{Kind}
 use Rattle.artery_journal.specs.declared.words.Kind.TheVariants.{Refs, Manifests}
-use Rattle.artery_judge.specs.Lines.{is_way, same}
+use Rattle.artery_judge.specs.Lines.{same}
 use Rattle.artery_judge.specs.Laws.{is_nonce}
 use Rattle.artery_tables.specs.Story.{Story, version_of, number_of, entry_of}
 use Rattle.artery_machine.specs.declared.world.Outcome.TheVariants as outcomes
-use Rattle.artery_machine.specs.Deeds.{Writing, Sends, Tells}
+use Rattle.artery_machine.specs.Deeds.{Writing, Sends}
 use Rattle.artery_machine.specs.Parts.{whole}
 use Rattle.artery_machine.specs.Ways.{Wrote}
-use Rattle.artery_machine.specs.Connections.{is_dialed, is_inward}
-use Rattle.artery_machine.specs.Node.{Node, Inbound, Origin, OfKinds, of_kind, change_kind, peer_at, origin_at, inbound_at, nonce_in}
-use Rattle.artery_machine.specs.Doing.{Rule, ◌▸◌, tells_of, inbound_becomes, origin_becomes}
-use Rattle.artery_machine.specs.Making.{uses}
+use Rattle.artery_machine.specs.Connections.{is_inward}
+use Rattle.artery_machine.specs.Node.{Node, Inbound, Origin, OfKinds, of_kind, peer_at, origin_at, inbound_at}
+use Rattle.artery_machine.specs.Doing.{tells_of}
 use Rattle.artery_machine.specs.Verdict.{tables_for}
-use Rattle.artery_machine.specs.Hearing.{tell_of, shown_by, with_shown, with_counted, counts_names, got}
-use Rattle.artery_machine.specs.World.{going_on, comes_out, does as does_outside}
-use Rattle.artery_flight.specs.Flight.{is_frame, frame_of}
+use Rattle.artery_machine.specs.Hearing.{tell_of}
+use Rattle.artery_machine.specs.World.{comes_out}
 use Rattle.artery_names.specs.Versions.{Fits}
-use Rattle.artery_names.proofs.Lists.{by_test, none_is, on_cond, not_both, not_some, some_same, eq_true, eq_self, and_left, and_right, and_both, get_prefix, Each, each_weaker, each_get, Or, First, Second, Within, within_more, within_push}
+use Rattle.artery_names.proofs.Lists.{by_test, none_is, on_cond, not_both, not_some, some_same, eq_true, eq_self, and_left, and_right, and_both, get_prefix, Each, each_get, First, Within, within_more}
 use Rattle.artery_names.proofs.Said.{all_said, sends_said, carried}
 use Rattle.artery_names.proofs.Talks.{Told, adopted_by, told_by, got_by, name_by, messages, newest_line, SameSaid}
-use Rattle.artery_names.proofs.Facts.{Network, Conn, journal, sends_on, Announced, IsWritten, AreWritten, AtMost, AreRising, ConnFacts, IsLawful, Out, bound_in, IsShown, IsState, IsKnown, InFacts, Heard, stories_of, story_of, sent_in, NodeFacts, Good}
-use Rattle.artery_names.proofs.Growing.{Grown, along_self, Along, Still, still_self, Stepped, stepped_self, grown_self, inward_same, sent_same}
+use Rattle.artery_names.proofs.Facts.{Network, Conn, journal, sends_on, Announced, IsWritten, AreWritten, AtMost, AreRising, ConnFacts, IsLawful, Out, IsState, InFacts, Heard, stories_of, story_of, sent_in, NodeFacts, Good}
+use Rattle.artery_names.proofs.Growing.{Grown, along_self, Still, still_self, Stepped, stepped_self, grown_self, inward_same, sent_same}
 use Rattle.artery_names.proofs.Plain.{Same, peer_facts_plain, all_held_grow, out_plain}
-use Rattle.artery_names.proofs.Outside.{outward}
-use Rattle.artery_names.proofs.Rules.{Work, Plain, ◌▹◌, origin_plain}
+use Rattle.artery_names.proofs.Rules.{Work}
 use Rattle.artery_names.proofs.Later.{Later, at_most_self, no_more, in_talk}
-use Rattle.artery_names.proofs.Keeping.{nowhere, Kept, kept_self, plain_keeps, Keeps, ◌▻◌}
-use Rattle.artery_names.proofs.Making.{uses_plain}
+use Rattle.artery_names.proofs.Keeping.{nowhere, Kept, kept_self}
 use Rattle.artery_names.proofs.Numbers.{number_is}
 use Rattle.artery_names.proofs.Meant.{Reads, message_told, announced_framed, adopted_within, place_within}
 use Rattle.artery_names.proofs.Telling.{same_is, same_self}
-use Rattle.artery_names.proofs.Asking.{inbound_good}
-use Rattle.artery_names.proofs.Premises.{Premise, kept_then}
-use Rattle.artery_names.proofs.Frames.{IsOrdinary, then_given, Comes, comes_good, one_inward}
+use Rattle.artery_names.proofs.Frames.{IsOrdinary, Comes, one_inward}
 
 -- ---- lists
 

@@ -1,5 +1,5 @@
 -- Frames are heard one after the other; inbound connections come and go.
-use Rattle.std.proofs.Common.{◌≡◌, ℕ, zero, suc, ◌+◌, ◌≤◌, ◌<◌, Bool, true, false, ◌&&◌, cond, List, [], ◌∷◌, ◌++◌, length, take, drop, map, refl, sym, ◌∙◌, ap, subst, arith}
+use Rattle.std.proofs.Common.{◌≡◌, ℕ, suc, ◌+◌, ◌≤◌, ◌<◌, Bool, true, false, ◌&&◌, cond, List, [], ◌∷◌, ◌++◌, length, take, drop, refl, sym, ◌∙◌, ap, subst, arith}
 use Rattle.std.specs.Prelude.{Option, None, Some, ◌==◌, nat_lt, not, slice_get}
 use Rattle.std.specs.List.{find, filter}
 use Rattle.std.proofs.lemmas.Bool.Decides.{nat_tests}
@@ -7,39 +7,35 @@ use Rattle.artery_base.specs.declared.address.UniqueAddress.{UniqueAddress}
 use Rattle.artery_base.specs.declared.message.Tell.{Tell}
 use Rattle.artery_frame.specs.declared.stream.Stream.{Stream}
 use Rattle.artery_frame.specs.declared.fault.FrameFault.{FrameFault}
-use Rattle.artery_handshake.specs.declared.in_conn.InState.TheVariants.{Raw, Known}
 use Rattle.artery_journal.specs.declared.line.Line.{Line}
 use Rattle.artery_journal.specs.declared.line.Line.TheVariants as lines
 use Rattle.artery_journal.specs.declared.words.Kind.{Kind}
 use Rattle.artery_journal.specs.declared.words.Kind.TheVariants.{Refs, Manifests}
-use Rattle.artery_journal.specs.declared.words.Reason.TheVariants as reasons
-use Rattle.artery_judge.specs.Lines.{Way, says_got, says_told}
+use Rattle.artery_judge.specs.Lines.{Way, says_got, says_told, same}
 use Rattle.artery_machine.specs.declared.input.Conn.TheVariants.{Inward}
 use Rattle.artery_machine.specs.Deeds.{Hangs}
 use Rattle.artery_machine.specs.Parts.{whole}
 use Rattle.artery_machine.specs.Connections.{is_dialed, is_inward}
-use Rattle.artery_machine.specs.Node.{Node, Inbound, OfKinds, of_kind, of_each, is_number, inbound_at, accepted_as, put_inbound}
-use Rattle.artery_machine.specs.Doing.{Rule, ◌▸◌, becomes, does, tells_of, inbound_becomes, each}
-use Rattle.artery_machine.specs.Handshaking.{drops}
+use Rattle.artery_machine.specs.Node.{Node, Inbound, of_kind, is_number, inbound_at, accepted_as, put_inbound}
+use Rattle.artery_machine.specs.Doing.{becomes, does, inbound_becomes, each}
 use Rattle.artery_machine.specs.Hearing.{hears}
-use Rattle.artery_machine.specs.Reacting.{stream_rule, with_inbound, without_inbound, with_bytes, accepts, ends_broken, comes_on, comes, most_inbound}
-use Rattle.artery_names.proofs.Lists.{by_test, on_cond, not_both, not_some, some_same, eq_true, eq_self, eq_not, and_left, and_right, and_both, Each, each_weaker, Or, First, Second, Within, within_more}
+use Rattle.artery_machine.specs.Reacting.{stream_rule, with_inbound, without_inbound, with_bytes, ends_broken}
+use Rattle.artery_names.proofs.Lists.{by_test, on_cond, not_some, some_same, eq_true, eq_self, eq_not, and_left, and_right, Each, each_weaker, Within, within_more}
 use Rattle.artery_names.proofs.Said.{Answering}
 use Rattle.artery_names.proofs.Talks.{Told, adopted_by, told_by, got_by, told_more, got_more, name_by, messages}
-use Rattle.artery_names.proofs.Facts.{Network, Conn, journal, answers_on, KeepsOrdinary, IsLawful, Out, IsKnown, IsShown, InFacts, Heard, stories_of, Rises, numbers_in, NodeFacts, Good}
+use Rattle.artery_names.proofs.Facts.{Network, Conn, journal, answers_on, KeepsOrdinary, IsLawful, IsKnown, IsShown, InFacts, Heard, stories_of, Rises, numbers_in, NodeFacts, Good}
 use Rattle.artery_names.proofs.Growing.{Grown, Along}
 use Rattle.artery_names.proofs.Plain.{Same}
-use Rattle.artery_names.proofs.Outside.{outward}
-use Rattle.artery_names.proofs.Rules.{Work, Plain, ◌▹◌, deed_plain, inbound_plain}
-use Rattle.artery_names.proofs.Later.{Later, later_self, along_grown}
+use Rattle.artery_names.proofs.Rules.{Work, deed_plain, inbound_plain}
+use Rattle.artery_names.proofs.Later.{later_self, along_grown, later_trans}
 use Rattle.artery_names.proofs.Keeping.{nowhere, Kept, kept_self, Keeps, ◌▻◌, plain_keeps, stays_keep}
-use Rattle.artery_names.proofs.Premises.{kept_then}
-use Rattle.artery_names.proofs.Frames.{then_given, given_good}
-use Rattle.artery_names.proofs.Sending.{refused_plain}
+use Rattle.artery_names.proofs.Frames.{then_given}
 use Rattle.artery_names.proofs.Shown.{then_here}
 use Rattle.artery_names.proofs.Hearing.{Frame, frame_grows, Before, Behind, drops_plain}
 use Rattle.artery_names.proofs.Handling.{hears_kept}
 use Rattle.artery_names.proofs.Writes.{IsOpened}
+use Rattle.artery_names.proofs.Telling.{same_is}
+use Rattle.artery_names.specs.Versions.{Fits}
 use Rattle.artery_judge.specs.Laws.{is_dial, is_nonce}
 
 -- ---- frames, one after the other
@@ -89,7 +85,7 @@ module _ {nobody : UniqueAddress} {u m : ℕ} where
         after = rest.after;
         away = λ x n. rest.away x n ∙ then_away given k (p + 1) x n;
         here = rest.here ∙ ap (λ (x : ℕ). last x (p + 1) frames) (then_here given k (p + 1));
-        kept = record { good = rest.kept.good; later = Rattle.artery_names.proofs.Later.later_trans nobody u d.deeds (hears k stream frame d).deeds (each frames (hears k stream) (hears k stream frame d)).deeds one.later rest.kept.later };
+        kept = record { good = rest.kept.good; later = later_trans nobody u d.deeds (hears k stream frame d).deeds (each frames (hears k stream) (hears k stream frame d)).deeds one.later rest.kept.later };
       }
 
 -- ---- an inbound connection goes
@@ -226,10 +222,10 @@ lawful_within a b d (l ∷ ls) h = by l h.0 (lawful_within a b d ls h.1)
     got None k w = w
     got (Some ((way, None), message)) k w = absurd k
     got (Some (((y, x), Some e), message)) k w = on_cond (λ gs. Within gs (messages (told_by a b d ls))) (is_nonce b a d ((y, x), Some e)) (got_by a b d ls ++ message ∷ []) (got_by a b d ls)
-        (λ t. (let s : (Rattle.artery_judge.specs.Lines.same b y && Rattle.artery_judge.specs.Lines.same a x) ≡ true = and_left (Rattle.artery_judge.specs.Lines.same b y && Rattle.artery_judge.specs.Lines.same a x) (d == e) t in
-            let yb : b ≡ y = Rattle.artery_names.proofs.Telling.same_is b y (and_left (Rattle.artery_judge.specs.Lines.same b y) (Rattle.artery_judge.specs.Lines.same a x) s) in
-            let xa : a ≡ x = Rattle.artery_names.proofs.Telling.same_is a x (and_right (Rattle.artery_judge.specs.Lines.same b y) (Rattle.artery_judge.specs.Lines.same a x) s) in
-            let de : d ≡ e = eq_true d e (and_right (Rattle.artery_judge.specs.Lines.same b y && Rattle.artery_judge.specs.Lines.same a x) (d == e) t) in
+        (λ t. (let s : (same b y && same a x) ≡ true = and_left (same b y && same a x) (d == e) t in
+            let yb : b ≡ y = same_is b y (and_left (same b y) (same a x) s) in
+            let xa : a ≡ x = same_is a x (and_right (same b y) (same a x) s) in
+            let de : d ≡ e = eq_true d e (and_right (same b y && same a x) (d == e) t) in
             let P : UniqueAddress → UniqueAddress → ℕ → Type 0 = λ p q r. Within (got_by p q r ls ++ message ∷ []) (messages (told_by p q r ls)) in
             subst (λ (r : ℕ). P a b r) (sym de) (subst (λ (q : UniqueAddress). P a q e) (sym yb) (subst (λ (p : UniqueAddress). P p y e) (sym xa) k))))
         (λ t. w)
@@ -262,7 +258,7 @@ lawful_within a b d (l ∷ ls) h = by l h.0 (lawful_within a b d ls h.1)
     by (lines.Idle p q) k w = w
 
 -- A connection that was made just now reaches the node under this number: nothing was told on it, and no answer names it.
-pub record Comes' (nobody : UniqueAddress) (u k : ℕ) (cs : List Conn) (ls : List Line) : Type 0 where
+pub record MadeJustNow (nobody : UniqueAddress) (u k : ℕ) (cs : List Conn) (ls : List Line) : Type 0 where
   pub place : ℕ
   pub conn : Conn
   pub is : slice_get cs place ≡ Some conn
@@ -275,7 +271,7 @@ nothing_within [] h = refl
 nothing_within (x ∷ xs) h = absurd h
 
 module _ (nobody : UniqueAddress) (u : ℕ) (given : ℕ → ℕ) where
-  pub with_good : (k : ℕ) (n : Node whole) (w : Network) → (w.ended ≡ None → Comes' nobody u k w.connections (journal w)) → Good nobody u given nowhere n w → Good nobody u (then_given given k 0) nowhere (with_inbound k n) w
+  pub with_good : (k : ℕ) (n : Node whole) (w : Network) → (w.ended ≡ None → MadeJustNow nobody u k w.connections (journal w)) → Good nobody u given nowhere n w → Good nobody u (then_given given k 0) nowhere (with_inbound k n) w
   with_good k n w f g = record {
     lawful = g.lawful;
     out = g.out;
@@ -299,7 +295,7 @@ module _ (nobody : UniqueAddress) (u : ℕ) (given : ℕ → ℕ) where
       ls : List Line
       ls = journal w
 
-      new_facts : w.ended ≡ None → NodeFacts nobody u given nowhere n w.connections (journal w) → (c : Comes' nobody u k w.connections (journal w))
+      new_facts : w.ended ≡ None → NodeFacts nobody u given nowhere n w.connections (journal w) → (c : MadeJustNow nobody u k w.connections (journal w))
           → InFacts n.me (name_by nobody c.conn.dialer (journal w)) 0 (stories_of n (name_by nobody c.conn.dialer (journal w))) (journal w) (accepted_as k) c.conn
       new_facts e h c =
           let a : UniqueAddress = name_by nobody c.conn.dialer (journal w) in
@@ -312,7 +308,7 @@ module _ (nobody : UniqueAddress) (u : ℕ) (given : ℕ → ℕ) where
             state = none;
             owed = tt;
             got = subst (λ xs. Within xs (messages (take 0 (told_by a n.me c.conn.dial (journal w))))) (sym nothing) tt;
-            fits = λ y kind. subst (λ ts. Each (λ (t : Told). Rattle.artery_names.specs.Versions.Fits (length (stories_of n a kind).tables) (of_kind kind t.numbers)) (drop 0 ts)) (sym none) tt;
+            fits = λ y kind. subst (λ ts. Each (λ (t : Told). Fits (length (stories_of n a kind).tables) (of_kind kind t.numbers)) (drop 0 ts)) (sym none) tt;
             shown = shown;
           }
         where
@@ -341,7 +337,7 @@ module _ (nobody : UniqueAddress) (u : ℕ) (given : ℕ → ℕ) where
               known : (p : ℕ) (z : Conn) → slice_get w.connections p ≡ Some z → is_dialed y.uid y.dial z ≡ true → z.far ≡ u → ((i : Inbound whole) → inbound_at z.number n ≡ Some i → IsKnown i.state) → (i : Inbound whole) → Put z.number k n.inbound i → IsKnown i.state
               known p z q r far was i (Old s d) = was i d
               known p z q r far was i (New s d) =
-                  let c' = f e in
-                  let same : p ≡ c'.place = (g.out e).reached p c'.place z c'.conn q c'.is (far ∙ sym (eq_true c'.conn.far u (and_left (c'.conn.far == u) (c'.conn.number == k) c'.inward))) (s ∙ sym (eq_true c'.conn.number k (and_right (c'.conn.far == u) (c'.conn.number == k) c'.inward))) in
-                  let is : z ≡ c'.conn = some_same (sym q ∙ ap (λ (x : ℕ). slice_get w.connections x) same ∙ c'.is) in
+                  let made = f e in
+                  let same : p ≡ made.place = (g.out e).reached p made.place z made.conn q made.is (far ∙ sym (eq_true made.conn.far u (and_left (made.conn.far == u) (made.conn.number == k) made.inward))) (s ∙ sym (eq_true made.conn.number k (and_right (made.conn.far == u) (made.conn.number == k) made.inward))) in
+                  let is : z ≡ made.conn = some_same (sym q ∙ ap (λ (x : ℕ). slice_get w.connections x) same ∙ made.is) in
                   absurd (b.0 (subst (λ (x : Conn). is_dialed y.uid y.dial x ≡ true) is r))

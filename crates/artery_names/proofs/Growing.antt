@@ -1,19 +1,18 @@
 -- Connections go on: what is true of them stays true.
-use Rattle.std.proofs.Common.{◌≡◌, ℕ, zero, suc, ◌+◌, ◌≤◌, Bool, true, false, ◌&&◌, cond, List, [], ◌∷◌, ◌++◌, length, take, refl, sym, ◌∙◌, ap, subst, arith}
-use Rattle.std.specs.Prelude.{Option, None, Some, ◌==◌, slice_get, slice_set}
+use Rattle.std.proofs.Common.{◌≡◌, ℕ, zero, suc, ◌≤◌, Bool, true, false, ◌&&◌, List, [], ◌∷◌, ◌++◌, length, take, refl, sym, ◌∙◌, ap, subst, arith}
+use Rattle.std.specs.Prelude.{Some, ◌==◌, slice_get, slice_set}
 use Rattle.artery_base.specs.Words.{IsPrefix}
 use Rattle.artery_frame.specs.declared.stream.Stream.{Stream}
-use Rattle.artery_frame.specs.declared.stream.Stream.TheVariants as streams
 use Rattle.artery_header.specs.Envelope.{NameOf, Literal, Index, EnvelopeOf}
 use Rattle.artery_journal.specs.declared.words.Kind.{Kind}
 use Rattle.artery_journal.specs.declared.words.Kind.TheVariants.{Refs, Manifests}
 use Rattle.artery_machine.specs.Deeds.{Writing}
 use Rattle.artery_machine.specs.Ways.{Wrote}
 use Rattle.artery_machine.specs.Connections.{is_dialed, is_inward}
-use Rattle.artery_names.proofs.Lists.{some_same, not_some, Each, get_prefix, eq_true, eq_not, Put, There, Elsewhere, get_set, set_here, set_away, prefix_self, prefix_trans}
-use Rattle.artery_names.proofs.Said.{all_said, said_append, sends_said, tables_said, acks_said, answers_said, speakers_said, carried, stream_said}
+use Rattle.artery_names.proofs.Lists.{some_same, not_some, get_prefix, eq_true, eq_not, Put, There, Elsewhere, get_set, set_here, set_away, prefix_self, prefix_trans}
+use Rattle.artery_names.proofs.Said.{all_said, said_append, sends_said, tables_said, answers_said, carried}
 use Rattle.artery_names.proofs.Talks.{Told}
-use Rattle.artery_names.proofs.Facts.{Conn, Has, Announced, Answered, Made, Entry, IsNamed, IsWritten, AreWritten, sends_on, tables_on, acks_on, answers_on, speakers_on, sent_in}
+use Rattle.artery_names.proofs.Facts.{Conn, Has, Announced, Answered, Made, IsNamed, IsWritten, AreWritten, sends_on, tables_on, acks_on, answers_on, speakers_on, sent_in}
 
 -- ---- one connection
 
@@ -75,9 +74,6 @@ prefix_said says xs ys p = (all_said says p.0, sym (said_append says xs p.0) ∙
 
 pub has_prefix : {X : Type 0} (x : X) (xs ys : List X) → IsPrefix xs ys → Has x xs → Has x ys
 has_prefix x xs ys p h = record { place = h.place; is = get_prefix xs ys h.place x p h.is }
-
-no_stream : {P : Type 0} {s : Stream} → None ≡ Some s → P
-no_stream h = not_some h
 
 pub carried_more : (xs ys : List Wrote) (s : Stream) → IsPrefix xs ys → carried xs ≡ Some s → carried ys ≡ Some s
 carried_more [] ys s p h = not_some h

@@ -1,8 +1,9 @@
 -- What a frame does keeps the facts, whatever it says.
-use Rattle.std.proofs.Common.{◌≡◌, ℕ, ◌+◌, ◌≤◌, Bool, true, false, ◌&&◌, List, [], ◌∷◌, length, refl, sym, ◌∙◌, ap, subst, arith}
-use Rattle.std.specs.Prelude.{Option, None, Some, Ok, ◌==◌, slice_get}
+use Rattle.std.proofs.Common.{◌≡◌, ℕ, ◌+◌, ◌≤◌, Bool, true, false, List, [], ◌∷◌, length, refl, sym, ◌∙◌, ap, subst, arith, cond}
+use Rattle.std.specs.Prelude.{Option, None, Some, Ok, ◌==◌}
 use Rattle.std.specs.List.{find}
 use Rattle.artery_base.specs.declared.address.UniqueAddress.{UniqueAddress}
+use Rattle.artery_base.specs.declared.address.Address.{Address}
 use Rattle.artery_codec.specs.Meaning.{Meaning}
 use Rattle.artery_control.specs.declared.control.Control.{Control}
 use Rattle.artery_control.specs.declared.control.Control.TheVariants as controls
@@ -20,26 +21,25 @@ use Rattle.artery_machine.specs.Connections.{is_inward}
 use Rattle.artery_machine.specs.Node.{Node, Inbound, of_kind, is_number, inbound_at, speaker_in}
 use Rattle.artery_machine.specs.Doing.{Rule, ◌▸◌}
 use Rattle.artery_machine.specs.Making.{uses}
-use Rattle.artery_machine.specs.Verdict.{Content, Ordinary, Controls as Says', Verdict, Dropped, OfClosed, Says, content_in, is_shut, verdict}
-use Rattle.artery_machine.specs.Hearing.{table_number, acked, nacked, controlled, drops_closed, by_speaker, spoken, handles, heard_as, hears_on, hears}
+use Rattle.artery_machine.specs.Verdict.{Content, Ordinary, Controls as SaysControl, Verdict, Dropped, OfClosed, Says, content_in, is_shut, verdict}
+use Rattle.artery_machine.specs.Hearing.{table_number, acked, nacked, controlled, drops_closed, by_speaker, spoken, handles, heard_as, hears_on, hears, confirms, tabled}
 use Rattle.artery_machine.specs.Ticking.{numbers_from}
-use Rattle.artery_flight.specs.Flight.{frame_of}
-use Rattle.artery_flight.proofs.Reading.{IsSaidBy, content_is, judged_says}
-use Rattle.artery_names.proofs.Lists.{eq_true, and_left, and_right, some_same, not_some, Each}
+use Rattle.artery_flight.proofs.Reading.{content_is, judged_says}
+use Rattle.artery_names.proofs.Lists.{eq_true, and_left, some_same, not_some, Each}
 use Rattle.artery_names.proofs.Said.{Tabling, Acking, tables_said, acks_said, answers_said, speakers_said, answers_by}
-use Rattle.artery_names.proofs.Talks.{adopted_by, name_by}
-use Rattle.artery_names.proofs.Facts.{Network, Conn, journal, Has, tables_on, Announced, ConnFacts, Out, IsState, Heard, stories_of, NodeFacts, Good}
+use Rattle.artery_names.proofs.Talks.{adopted_by, name_by, told_by}
+use Rattle.artery_names.proofs.Facts.{Conn, journal, Has, tables_on, Announced, ConnFacts, Out, IsState, Heard, stories_of, NodeFacts, Good}
 use Rattle.artery_names.proofs.Outside.{outward}
 use Rattle.artery_names.proofs.Rules.{Work, Plain}
-use Rattle.artery_names.proofs.Keeping.{nowhere, Kept, kept_self, plain_keeps, Keeps, ◌▻◌, stays_keep}
+use Rattle.artery_names.proofs.Keeping.{nowhere, Kept, kept_self, plain_keeps, ◌▻◌, stays_keep}
 use Rattle.artery_names.proofs.Making.{uses_plain}
-use Rattle.artery_names.proofs.Asking.{AskedBy, asking, requested_keeps, drops_keep}
-use Rattle.artery_names.proofs.Binding.{Meant, meeting, answered_keeps}
-use Rattle.artery_names.proofs.Premises.{KeepsIf, ◌▷◌, always_keeps}
-use Rattle.artery_names.proofs.Frames.{IsOrdinary, ordinary_is, then_given, Comes, comes_good, given_good, one_inward}
-use Rattle.artery_names.proofs.Adopting.{tabling, tabled_keeps, confirms_kept}
+use Rattle.artery_names.proofs.Asking.{AskedBy, requested_keeps}
+use Rattle.artery_names.proofs.Binding.{Meant, answered_keeps}
+use Rattle.artery_names.proofs.Premises.{◌▷◌, always_keeps}
+use Rattle.artery_names.proofs.Frames.{ordinary_is, then_given, comes_good, one_inward}
+use Rattle.artery_names.proofs.Adopting.{tabled_keeps, confirms_kept}
 use Rattle.artery_names.proofs.Shown.{then_here, got_keeps}
-use Rattle.artery_names.proofs.Hearing.{IsTold, IsToldBy, Frame, Before, comes_next, comes_ordinary, said_each, said_has, drops_plain, acked_plain, nacked_plain, beat_plain, back_plain, noticed_plain, shut_plain, speaker_plain, current_plain, numbered_keeps}
+use Rattle.artery_names.proofs.Hearing.{IsTold, Frame, Before, comes_next, comes_ordinary, said_each, said_has, drops_plain, acked_plain, nacked_plain, beat_plain, back_plain, noticed_plain, shut_plain, speaker_plain, current_plain, numbered_keeps}
 
 -- ---- who speaks on a connection
 
@@ -64,13 +64,13 @@ module _ (nobody : UniqueAddress) (u k p : ℕ) (given : ℕ → ℕ) (stream : 
   ends_of i who its_nonce at known =
       let y : Heard nobody n.me (given k) (stories_of n) cs ls k i = h.inbound k i at in
       let same : y.conn ≡ f.conn = one_inward nobody cs ls out u k y.place f.place y.conn f.conn y.is f.is (subst (λ (z : ℕ). is_inward z k y.conn ≡ true) h.uid y.inward) f.inward in
-      let P : InState → Type 0 = λ s. IsState (name_by nobody y.conn.dialer ls) y.conn.dial (Rattle.artery_names.proofs.Talks.told_by (name_by nobody y.conn.dialer ls) n.me y.conn.dial ls) s in
+      let P : InState → Type 0 = λ s. IsState (name_by nobody y.conn.dialer ls) y.conn.dial (told_by (name_by nobody y.conn.dialer ls) n.me y.conn.dial ls) s in
       let state : P (Known who its_nonce) = subst P known y.facts.state in
       let near : who ≡ name_by nobody f.conn.dialer ls = state.0 ∙ ap (λ (z : Conn). name_by nobody z.dialer ls) same in
       record { near = near; dialer = ap (λ (z : UniqueAddress). z.uid) near ∙ at_conn.near; far = far_is; reached = far_me }
 
   -- a handshake request
-  asked_by : (from : UniqueAddress) (to : Rattle.artery_base.specs.declared.address.Address.Address) (its_nonce : Option ℕ) → f.wrote.writing ≡ Controls (controls.HandshakeReq from to its_nonce) → AskedBy nobody u k from its_nonce cs ls
+  asked_by : (from : UniqueAddress) (to : Address) (its_nonce : Option ℕ) → f.wrote.writing ≡ Controls (controls.HandshakeReq from to its_nonce) → AskedBy nobody u k from its_nonce cs ls
   asked_by from to its_nonce w =
       let says : Each (λ (v : UniqueAddress). v ≡ name_by nobody f.conn.dialer ls) (speakers_said (Controls (controls.HandshakeReq from to its_nonce))) =
           subst (λ (x : Writing). Each (λ (v : UniqueAddress). v ≡ name_by nobody f.conn.dialer ls) (speakers_said x)) w (said_each speakers_said (λ (v : UniqueAddress). v ≡ name_by nobody f.conn.dialer ls) f.conn.way.all p f.wrote f.here at_conn.says) in
@@ -130,7 +130,7 @@ module _ {nobody : UniqueAddress} {u m : ℕ} (given : ℕ → ℕ) (k p : ℕ) 
       by [] e = not_some e
       by (j ∷ is) e = at_it (is_number k j) refl e (by is)
         where
-          at_it : (c : Bool) → is_number k j ≡ c → Rattle.std.proofs.Common.cond c (Some j) (find (is_number k) is) ≡ Some i → (find (is_number k) is ≡ Some i → i.number ≡ k) → i.number ≡ k
+          at_it : (c : Bool) → is_number k j ≡ c → cond c (Some j) (find (is_number k) is) ≡ Some i → (find (is_number k) is ≡ Some i → i.number ≡ k) → i.number ≡ k
           at_it true t q rest = subst (λ (x : Inbound whole). x.number ≡ k) (some_same q) (eq_true j.number k t)
           at_it false t q rest = rest q
 
@@ -138,8 +138,8 @@ module _ {nobody : UniqueAddress} {u m : ℕ} (given : ℕ → ℕ) (k p : ℕ) 
   now_given = comes_good nobody u given k p stream frame d.node d.deeds (λ live. comes_next u k (given k) p stream frame d.deeds.connections b (f live)) g
 
   -- what was written is what is said
-  writing_is : (control : Control) → content_in stream d.node i frame ≡ Ok (Says' control) → (live : d.deeds.ended ≡ None) → (f live).wrote.writing ≡ Controls control
-  writing_is control e live = content_is stream d.node i (f live).conn.dialer (f live).wrote.writing (Says' control) (f live).framed (f live).read (ap (content_in stream d.node i) (f live).bytes ∙ e)
+  writing_is : (control : Control) → content_in stream d.node i frame ≡ Ok (SaysControl control) → (live : d.deeds.ended ≡ None) → (f live).wrote.writing ≡ Controls control
+  writing_is control e live = content_is stream d.node i (f live).conn.dialer (f live).wrote.writing (SaysControl control) (f live).framed (f live).read (ap (content_in stream d.node i) (f live).bytes ∙ e)
 
   abbrev Then : Rule whole (outward u m) → Type 0
   Then r = Kept nobody u (then_given given k (p + 1)) nowhere d.deeds (r d).node (r d).deeds
@@ -147,31 +147,31 @@ module _ {nobody : UniqueAddress} {u m : ℕ} (given : ℕ → ℕ) (k p : ℕ) 
   some_given : 1 ≤ then_given given k (p + 1) i.number
   some_given = subst (λ (x : ℕ). 1 ≤ then_given given k (p + 1) x) (sym number_is) (subst (λ (x : ℕ). 1 ≤ x) (sym (then_here given k (p + 1))) (omega arith))
 
-  asks_kept : (from : UniqueAddress) (to : Rattle.artery_base.specs.declared.address.Address.Address) (its_nonce : Option ℕ) → content_in stream d.node i frame ≡ Ok (Says' (controls.HandshakeReq from to its_nonce)) → Then (handles i (Says' (controls.HandshakeReq from to its_nonce)))
+  asks_kept : (from : UniqueAddress) (to : Address) (its_nonce : Option ℕ) → content_in stream d.node i frame ≡ Ok (SaysControl (controls.HandshakeReq from to its_nonce)) → Then (handles i (SaysControl (controls.HandshakeReq from to its_nonce)))
   asks_kept from to its_nonce e = (requested_keeps i from to its_nonce some_given).on d
       (λ live. subst (λ (x : ℕ). AskedBy nobody u x from its_nonce d.deeds.connections (journal d.deeds)) (sym number_is)
           (asked_by nobody u k p given stream frame d.node d.deeds.connections (journal d.deeds) (g.out live) (g.node live) (f live) from to its_nonce (writing_is (controls.HandshakeReq from to its_nonce) e live)))
       now_given
 
-  answers_kept : (from : UniqueAddress) (for_uid its_nonce : Option ℕ) → content_in stream d.node i frame ≡ Ok (Says' (controls.HandshakeRsp from for_uid its_nonce)) → Then (handles i (Says' (controls.HandshakeRsp from for_uid its_nonce)))
+  answers_kept : (from : UniqueAddress) (for_uid its_nonce : Option ℕ) → content_in stream d.node i frame ≡ Ok (SaysControl (controls.HandshakeRsp from for_uid its_nonce)) → Then (handles i (SaysControl (controls.HandshakeRsp from for_uid its_nonce)))
   answers_kept from for_uid its_nonce e = (answered_keeps from for_uid its_nonce).on d
       (λ live. meant_for nobody u k p given stream frame d.node d.deeds.connections (journal d.deeds) (g.out live) (g.node live) (f live) from for_uid its_nonce (writing_is (controls.HandshakeRsp from for_uid its_nonce) e live))
       now_given
 
   module _ (who : UniqueAddress) (its_nonce : Option ℕ) (known : i.state ≡ Known who its_nonce) where
     tables_kept : (kind : Kind) (uid number : ℕ) (keys : List (List ℕ)) (values : List ℕ) → ((live : d.deeds.ended ≡ None) → tables_said (f live).wrote.writing ≡ record { kind = kind; number = number; keys = keys; values = values } ∷ [])
-        → Then (uses who.address ▸ Rattle.artery_machine.specs.Hearing.tabled i.number who kind uid number keys values)
+        → Then (uses who.address ▸ tabled i.number who kind uid number keys values)
     tables_kept kind uid number keys values w = (always_keeps (uses who.address) (plain_keeps (uses who.address) (uses_plain who.address)) ▷ tabled_keeps i.number who kind uid number keys values).on d
         (λ live. table_there nobody u k p given stream frame d.node d.deeds.connections (journal d.deeds) (g.out live) (g.node live) (f live) i who its_nonce kind number keys values at known (w live)) now_given
 
-    confirmed_kept : (kind : Kind) (number : ℕ) → ((live : d.deeds.ended ≡ None) → acks_said (f live).wrote.writing ≡ record { kind = kind; number = number } ∷ []) → Then (Rattle.artery_machine.specs.Hearing.confirms i.number who kind number)
+    confirmed_kept : (kind : Kind) (number : ℕ) → ((live : d.deeds.ended ≡ None) → acks_said (f live).wrote.writing ≡ record { kind = kind; number = number } ∷ []) → Then (confirms i.number who kind number)
     confirmed_kept kind number w = confirms_kept i.number who kind number d
         (λ live. ack_below nobody u k p given stream frame d.node d.deeds.connections (journal d.deeds) (g.out live) (g.node live) (f live) i who its_nonce kind number at known (w live)) now_given
 
     plainly : (r : Rule whole (outward u m)) → Plain u m r → Then r
     plainly r q = (plain_keeps r q).on d now_given
 
-    controlled_kept : (c : Control) → content_in stream d.node i frame ≡ Ok (Says' c) → Then (controlled i.number who c)
+    controlled_kept : (c : Control) → content_in stream d.node i frame ≡ Ok (SaysControl c) → Then (controlled i.number who c)
     controlled_kept (controls.Quarantined from to) e = plainly _ (noticed_plain i.number who to)
     controlled_kept (controls.Terminating from) e = plainly _ (drops_plain i.number rules.Unused)
     controlled_kept (controls.TerminatingAck from) e = plainly _ (drops_plain i.number rules.Unused)
@@ -194,7 +194,7 @@ module _ {nobody : UniqueAddress} {u m : ℕ} (given : ℕ → ℕ) (k p : ℕ) 
 
     spoken_kept : (content : Content) → content_in stream d.node i frame ≡ Ok content → Then (spoken i who content)
     spoken_kept (Ordinary e s) q = ordinary_kept e s q
-    spoken_kept (Says' c) q = controlled_kept c q
+    spoken_kept (SaysControl c) q = controlled_kept c q
 
   by_kept : (content : Content) → content_in stream d.node i frame ≡ Ok content → (s : InState) → i.state ≡ s → Then (by_speaker (speaker_in s) (λ v. spoken i v content))
   by_kept content q Raw e = (stays_keep {nobody = nobody} {u = u} {m = m}).on d now_given
@@ -202,20 +202,20 @@ module _ {nobody : UniqueAddress} {u m : ℕ} (given : ℕ → ℕ) (k p : ℕ) 
 
   handles_kept : (content : Content) → content_in stream d.node i frame ≡ Ok content → Then (handles i content)
   handles_kept (Ordinary e s) q = by_kept (Ordinary e s) q i.state refl
-  handles_kept (Says' (controls.HandshakeReq from to its_nonce)) q = asks_kept from to its_nonce q
-  handles_kept (Says' (controls.HandshakeRsp from for_uid its_nonce)) q = answers_kept from for_uid its_nonce q
-  handles_kept (Says' (controls.Quarantined from to)) q = by_kept (Says' (controls.Quarantined from to)) q i.state refl
-  handles_kept (Says' (controls.Terminating from)) q = by_kept (Says' (controls.Terminating from)) q i.state refl
-  handles_kept (Says' (controls.TerminatingAck from)) q = by_kept (Says' (controls.TerminatingAck from)) q i.state refl
-  handles_kept (Says' (controls.RefsTable from uid version keys values sequence)) q = by_kept (Says' (controls.RefsTable from uid version keys values sequence)) q i.state refl
-  handles_kept (Says' (controls.RefsAck from version sequence)) q = by_kept (Says' (controls.RefsAck from version sequence)) q i.state refl
-  handles_kept (Says' (controls.ManifestsTable from uid version keys values sequence)) q = by_kept (Says' (controls.ManifestsTable from uid version keys values sequence)) q i.state refl
-  handles_kept (Says' (controls.ManifestsAck from version sequence)) q = by_kept (Says' (controls.ManifestsAck from version sequence)) q i.state refl
-  handles_kept (Says' (controls.Numbered n message reply_to)) q = by_kept (Says' (controls.Numbered n message reply_to)) q i.state refl
-  handles_kept (Says' (controls.Ack n from)) q = by_kept (Says' (controls.Ack n from)) q i.state refl
-  handles_kept (Says' (controls.Nack n from)) q = by_kept (Says' (controls.Nack n from)) q i.state refl
-  handles_kept (Says' controls.Heartbeat) q = by_kept (Says' controls.Heartbeat) q i.state refl
-  handles_kept (Says' (controls.HeartbeatRsp uid)) q = by_kept (Says' (controls.HeartbeatRsp uid)) q i.state refl
+  handles_kept (SaysControl (controls.HandshakeReq from to its_nonce)) q = asks_kept from to its_nonce q
+  handles_kept (SaysControl (controls.HandshakeRsp from for_uid its_nonce)) q = answers_kept from for_uid its_nonce q
+  handles_kept (SaysControl (controls.Quarantined from to)) q = by_kept (SaysControl (controls.Quarantined from to)) q i.state refl
+  handles_kept (SaysControl (controls.Terminating from)) q = by_kept (SaysControl (controls.Terminating from)) q i.state refl
+  handles_kept (SaysControl (controls.TerminatingAck from)) q = by_kept (SaysControl (controls.TerminatingAck from)) q i.state refl
+  handles_kept (SaysControl (controls.RefsTable from uid version keys values sequence)) q = by_kept (SaysControl (controls.RefsTable from uid version keys values sequence)) q i.state refl
+  handles_kept (SaysControl (controls.RefsAck from version sequence)) q = by_kept (SaysControl (controls.RefsAck from version sequence)) q i.state refl
+  handles_kept (SaysControl (controls.ManifestsTable from uid version keys values sequence)) q = by_kept (SaysControl (controls.ManifestsTable from uid version keys values sequence)) q i.state refl
+  handles_kept (SaysControl (controls.ManifestsAck from version sequence)) q = by_kept (SaysControl (controls.ManifestsAck from version sequence)) q i.state refl
+  handles_kept (SaysControl (controls.Numbered n message reply_to)) q = by_kept (SaysControl (controls.Numbered n message reply_to)) q i.state refl
+  handles_kept (SaysControl (controls.Ack n from)) q = by_kept (SaysControl (controls.Ack n from)) q i.state refl
+  handles_kept (SaysControl (controls.Nack n from)) q = by_kept (SaysControl (controls.Nack n from)) q i.state refl
+  handles_kept (SaysControl controls.Heartbeat) q = by_kept (SaysControl controls.Heartbeat) q i.state refl
+  handles_kept (SaysControl (controls.HeartbeatRsp uid)) q = by_kept (SaysControl (controls.HeartbeatRsp uid)) q i.state refl
 
   as_kept : (v : Verdict) → verdict stream d.node i frame ≡ v → Then (heard_as i v)
   as_kept (Dropped rule) e = (plain_keeps _ (drops_plain i.number rule)).on d now_given

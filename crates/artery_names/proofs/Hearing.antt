@@ -1,9 +1,7 @@
 -- A frame is heard: the facts stay true, and it was given.
-use Rattle.std.proofs.Common.{◌≡◌, ℕ, zero, suc, ◌+◌, ◌≤◌, ◌<◌, Bool, true, false, ◌&&◌, cond, List, [], ◌∷◌, ◌++◌, length, take, refl, sym, ◌∙◌, ap, subst, arith}
-use Rattle.std.specs.Prelude.{Option, None, Some, Ok, ◌==◌, nat_lt, slice_get}
-use Rattle.std.specs.List.{find}
+use Rattle.std.proofs.Common.{◌≡◌, ℕ, zero, suc, ◌≤◌, ◌<◌, Bool, true, false, ◌&&◌, List, [], ◌∷◌, ◌++◌, length, refl, sym, ◌∙◌, ap, subst, arith}
+use Rattle.std.specs.Prelude.{Option, None, Some, nat_lt, slice_get}
 use Rattle.artery_base.specs.Words.{IsPrefix}
-use Rattle.artery_base.specs.declared.address.Address.{Address}
 use Rattle.artery_base.specs.declared.address.UniqueAddress.{UniqueAddress}
 use Rattle.artery_base.specs.declared.message.SysMsg.{SysMsg}
 use Rattle.artery_codec.specs.Meaning.{Meaning}
@@ -14,52 +12,36 @@ use Rattle.artery_delivery.specs.declared.outbound.Acked.TheVariants.{Cleared, P
 use Rattle.artery_delivery.specs.declared.inbound.Take.{Take}
 use Rattle.artery_delivery.specs.declared.inbound.Take.TheVariants.{Taken, Again, Gap}
 use Rattle.artery_frame.specs.declared.stream.Stream.{Stream}
-use Rattle.artery_handshake.specs.declared.in_conn.InState.{InState}
-use Rattle.artery_handshake.specs.declared.in_conn.InState.TheVariants.{Raw, Known}
 use Rattle.artery_header.specs.Envelope.{EnvelopeOf}
-use Rattle.artery_journal.specs.declared.line.Line.{Line}
 use Rattle.artery_journal.specs.declared.line.Line.TheVariants as lines
 use Rattle.artery_journal.specs.declared.rule.Rule.{Rule as DropRule}
 use Rattle.artery_journal.specs.declared.rule.Rule.TheVariants as rules
-use Rattle.artery_journal.specs.declared.words.Kind.{Kind}
-use Rattle.artery_journal.specs.declared.words.Kind.TheVariants.{Refs, Manifests}
 use Rattle.artery_machine.specs.Deeds.{Writing, Begins, Controls, Sends}
 use Rattle.artery_machine.specs.Parts.{whole}
 use Rattle.artery_machine.specs.Ways.{Wrote}
 use Rattle.artery_machine.specs.Connections.{is_dialed, is_inward}
-use Rattle.artery_machine.specs.Node.{Node, Peer, Inbound, of_kind, same_unique, is_number, peer_at, origin_at, inbound_at, speaker_in}
-use Rattle.artery_machine.specs.Doing.{Rule, ◌▸◌, stays, where_true, becomes, tells_of, peer_becomes, origin_becomes}
-use Rattle.artery_machine.specs.Making.{uses}
-use Rattle.artery_machine.specs.Closing.{control_dial, on_control, quarantines}
-use Rattle.artery_machine.specs.Sending.{with_out, pumps}
-use Rattle.artery_machine.specs.Watching.{watches_at, acts}
+use Rattle.artery_machine.specs.Node.{Node, Inbound, same_unique, peer_at}
+use Rattle.artery_machine.specs.Doing.{Rule, becomes, tells_of, peer_becomes}
+use Rattle.artery_machine.specs.Closing.{control_dial, quarantines}
+use Rattle.artery_machine.specs.Watching.{watches_at}
 use Rattle.artery_machine.specs.Handshaking.{drops}
-use Rattle.artery_machine.specs.Verdict.{Content, Ordinary, Controls as Control', Verdict, Dropped, OfClosed, Says, content_in, is_shut, verdict}
-use Rattle.artery_machine.specs.Hearing.{table_number, is_told_closed, owes_ack, with_taken, is_now, heard_back, heard_at, acknowledges_on, acknowledges, numbered_as, numbered, acked_as, of_current, acked, nacked, hears_beat, beats_back, noticed, controlled, drops_closed, spoken, by_speaker, handles, heard_as, hears_on, hears}
-use Rattle.artery_machine.specs.Ticking.{numbers_from}
+use Rattle.artery_machine.specs.Verdict.{Content}
+use Rattle.artery_machine.specs.Hearing.{is_told_closed, owes_ack, with_taken, is_now, heard_back, heard_at, acknowledges_on, acknowledges, numbered_as, numbered, acked_as, of_current, acked, nacked, hears_beat, beats_back, noticed, drops_closed, by_speaker}
 use Rattle.artery_flight.specs.Flight.{is_frame, frame_of}
 use Rattle.artery_flight.specs.Answers.{IsReadBack}
-use Rattle.artery_flight.proofs.Reading.{IsSaidBy, content_is, judged_says}
-use Rattle.artery_names.proofs.Lists.{by_test, eq_true, and_left, and_right, some_same, not_some, Each, each_weaker, each_both, each_get, each_back, get_prefix}
-use Rattle.artery_names.proofs.Said.{Tabling, Acking, Answering, all_said, sends_said, tables_said, acks_said, answers_said, speakers_said, answers_by, carried}
-use Rattle.artery_names.proofs.Talks.{adopted_by, name_by}
-use Rattle.artery_names.proofs.Facts.{Network, Conn, journal, Has, Announced, Answered, Made, ConnFacts, Out, IsState, Heard, stories_of, sent_in, NodeFacts, Good}
-use Rattle.artery_names.proofs.Growing.{Grown, Along, made_grows, dialed_same, inward_same, sent_same, length_prefix}
+use Rattle.artery_names.proofs.Lists.{some_same, not_some, Each, each_back, get_prefix}
+use Rattle.artery_names.proofs.Said.{all_said, carried}
+use Rattle.artery_names.proofs.Facts.{Conn, Has, Made, sent_in}
+use Rattle.artery_names.proofs.Growing.{Grown, Along, made_grows, dialed_same, inward_same, sent_same}
 use Rattle.artery_names.proofs.Plain.{Same}
 use Rattle.artery_names.proofs.Outside.{outward}
-use Rattle.artery_names.proofs.Rules.{Work, Plain, ◌▹◌, kept_plain, stays_plain, tells_plain, if_plain, where_plain, origin_plain}
-use Rattle.artery_names.proofs.Later.{Later, along_grown}
-use Rattle.artery_names.proofs.Keeping.{nowhere, Kept, kept_self, plain_keeps, Keeps, ◌▻◌, stays_keep}
-use Rattle.artery_names.proofs.Silence.{silent, is_plain}
-use Rattle.artery_names.proofs.Making.{other_plain, uses_plain, out_plain, pumps_plain, control_plain, quarantines_plain}
+use Rattle.artery_names.proofs.Rules.{Plain, ◌▹◌, kept_plain, stays_plain, if_plain, where_plain, origin_plain}
+use Rattle.artery_names.proofs.Keeping.{plain_keeps, Keeps, ◌▻◌}
+use Rattle.artery_names.proofs.Silence.{is_plain}
+use Rattle.artery_names.proofs.Making.{other_plain, out_plain, pumps_plain, control_plain, quarantines_plain}
 use Rattle.artery_names.proofs.Sending.{line_plain, acts_keep}
 use Rattle.artery_names.proofs.Meant.{place_within}
-use Rattle.artery_names.proofs.Asking.{AskedBy, asking, requested_keeps, drops_keep}
-use Rattle.artery_names.proofs.Binding.{Meant, meeting, answered_keeps}
-use Rattle.artery_names.proofs.Premises.{Premise, KeepsIf, ◌▷◌, always_keeps}
-use Rattle.artery_names.proofs.Frames.{IsOrdinary, ordinary_is, then_given, Comes, comes_good, given_good, one_inward}
-use Rattle.artery_names.proofs.Adopting.{tabling, tabled_keeps, confirms_kept}
-use Rattle.artery_names.proofs.Shown.{then_here, got_keeps}
+use Rattle.artery_names.proofs.Frames.{IsOrdinary, Comes}
 
 -- ---- what a frame says is true
 

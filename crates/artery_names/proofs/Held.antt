@@ -1,23 +1,20 @@
 -- A name is written by a table that is held as itself, or as its place in the table that was announced.
-use Rattle.std.proofs.Common.{◌≡◌, ℕ, zero, suc, ◌+◌, Bool, true, false, ◌&&◌, cond, List, [], ◌∷◌, length, refl, sym, ◌∙◌, ap, subst, arith}
+use Rattle.std.proofs.Common.{◌≡◌, ℕ, suc, ◌+◌, Bool, true, false, cond, List, [], ◌∷◌, length, refl, sym, ◌∙◌, ap, subst, arith}
 use Rattle.std.specs.Prelude.{Option, None, Some, nat_eq, slice_get}
 use Rattle.std.specs.List.{zip}
 use Rattle.std.specs.Option.{option_or}
-use Rattle.std.specs.Cmp.Lexicographic.{pointwise}
 use Rattle.std.proofs.lemmas.Bool.Decides.{nat_tests}
 use Rattle.artery_base.specs.declared.message.Tell.{Tell}
-use Rattle.artery_header.specs.Envelope.{NameOf, Literal, Index, EnvelopeOf}
 use Rattle.artery_journal.specs.declared.words.Kind.{Kind}
 use Rattle.artery_journal.specs.declared.words.Kind.TheVariants.{Refs, Manifests}
 use Rattle.artery_tables.specs.Names.{same_name}
 use Rattle.artery_tables.specs.Story.{version_of}
 use Rattle.artery_tables.specs.OutTable.{State as Adopted, last_value}
-use Rattle.artery_codec.specs.Writing.{Indices, paired_indices, indexed, written_name, written}
+use Rattle.artery_codec.specs.Writing.{paired_indices, indexed, written_name, written}
 use Rattle.artery_machine.specs.Node.{OfKinds, of_kind}
 use Rattle.artery_machine.specs.Sending.{meaning_of}
 use Rattle.artery_machine.specs.Ticking.{numbers_from}
 use Rattle.artery_names.proofs.Lists.{and_left, and_right, some_same, not_some}
-use Rattle.artery_names.proofs.Talks.{Told}
 use Rattle.artery_names.proofs.Facts.{Conn, Entry, IsNamed, IsWritten, IsHeld, Holds}
 
 nat_is : (x y : ℕ) → nat_eq x y ≡ true → x ≡ y

@@ -1,6 +1,6 @@
 -- A connection is made: the facts stay true, and nothing was told on it.
-use Rattle.std.proofs.Common.{◌≡◌, ℕ, zero, suc, ◌+◌, ◌≤◌, Bool, true, false, ◌&&◌, cond, List, [], ◌∷◌, ◌++◌, length, refl, sym, ◌∙◌, ap, subst, arith}
-use Rattle.std.specs.Prelude.{Option, None, Some, ◌==◌, nat_lt, is_none, position, slice_get}
+use Rattle.std.proofs.Common.{◌≡◌, ℕ, zero, suc, ◌+◌, ◌≤◌, Bool, true, List, [], ◌∷◌, ◌++◌, length, refl, sym, ap, subst, arith}
+use Rattle.std.specs.Prelude.{Option, None, Some, ◌==◌, slice_get}
 use Rattle.std.specs.List.{find}
 use Rattle.artery_base.specs.declared.address.Address.{Address}
 use Rattle.artery_base.specs.declared.address.UniqueAddress.{UniqueAddress}
@@ -12,29 +12,27 @@ use Rattle.artery_journal.specs.declared.words.Kind.{Kind}
 use Rattle.artery_journal.specs.declared.words.Kind.TheVariants.{Refs, Manifests}
 use Rattle.artery_tables.specs.Story.{Story}
 use Rattle.artery_tables.specs.OutTable.{State as Adopted}
-use Rattle.artery_machine.specs.declared.input.Input.TheVariants as inputs
 use Rattle.artery_machine.specs.Deeds.{Writing, Begins, Controls, Sends}
 use Rattle.artery_machine.specs.Parts.{whole}
 use Rattle.artery_machine.specs.Ways.{Wrote, whole_ways}
-use Rattle.artery_machine.specs.Connections.{connected, is_dialed, is_inward}
-use Rattle.artery_machine.specs.Node.{Node, Peer, Inbound, OfKinds, of_kind, incarnation, inbound_at, peer_at}
-use Rattle.artery_machine.specs.World.{Live, Pending, Change, has_uid, one_more, live_of, joins, connects, gives, was_started, is_pending}
-use Rattle.artery_flight.proofs.Lists.{each_push, each_change, each_of, count, count_here, find_passes, not_some as flight_not_some}
-use Rattle.artery_flight.proofs.Grow.{AllRead, IsAnswerFor, TheOne, read_front}
-use Rattle.artery_flight.proofs.Facts.{IsTrue, IsTrueControl}
-use Rattle.artery_flight.proofs.Feeding.{nothing_left}
-use Rattle.artery_flight.proofs.Networks.{Going, Holds}
-use Rattle.artery_flight.proofs.Joining.{Offered, Joined, joined}
+use Rattle.artery_machine.specs.Connections.{connected, is_dialed}
+use Rattle.artery_machine.specs.Node.{Node, Peer, Inbound, OfKinds, of_kind, inbound_at, peer_at}
+use Rattle.artery_machine.specs.World.{Live, Pending, has_uid, one_more, joins}
+use Rattle.artery_flight.proofs.Lists.{each_change, count, count_here, each_find}
+use Rattle.artery_flight.proofs.Grow.{AllRead, IsAnswerFor}
+use Rattle.artery_flight.proofs.Facts.{IsTrue, IsTrueControl, ConnFacts as FlightFacts}
+use Rattle.artery_flight.proofs.Networks.{Holds}
+use Rattle.artery_flight.proofs.Joining.{Offered, joined}
 use Rattle.artery_flight.proofs.Flights.{are_single}
 use Rattle.artery_flight.specs.Names.{AreSingle}
-use Rattle.artery_names.proofs.Lists.{by_test, not_both, not_some, some_same, eq_true, eq_self, and_left, and_right, and_both, Each, each_weaker, each_both, each_get, get_front, Or, First, Second}
-use Rattle.artery_names.proofs.Said.{Tabling, Answering, all_said, answers_said, answers_of, answers_by}
+use Rattle.artery_names.proofs.Lists.{not_some, some_same, eq_true, eq_self, and_left, and_right, and_both, Each, each_weaker, each_both, each_get, get_front, Or, First, Second}
+use Rattle.artery_names.proofs.Said.{Tabling, Answering, all_said, answers_said, answers_of, answers_by, tables_said}
 use Rattle.artery_names.proofs.Talks.{Told, adopted_by, told_by, name_by}
-use Rattle.artery_names.proofs.Facts.{Network, Conn, journal, sends_on, answers_on, tables_on, Announced, Answered, Made, Entry, IsNamed, IsWritten, AreWritten, ConnFacts, IsLawful, IsAnnounced, Out, IsHeld, Holds as HoldsTable, AreHeld, BoundTo, IsBound, bound_in, PeerFacts, IsFramed, story_of, stories_of, InFacts, Heard, IsKnown, NodeFacts}
+use Rattle.artery_names.proofs.Facts.{Network, Conn, journal, sends_on, answers_on, tables_on, Announced, Answered, Made, IsNamed, AreWritten, ConnFacts, IsAnnounced, Out, IsHeld, AreHeld, IsBound, bound_in, PeerFacts, IsFramed, story_of, stories_of, Heard, IsKnown, NodeFacts}
 use Rattle.artery_names.proofs.Keeping.{nowhere}
 use Rattle.artery_names.proofs.Writes.{IsOpened}
-use Rattle.artery_names.proofs.Giving.{Comes'}
-use Rattle.artery_names.proofs.Worlds.{NodeNames, Names, Both}
+use Rattle.artery_names.proofs.Giving.{MadeJustNow}
+use Rattle.artery_names.proofs.Worlds.{NodeNames, Names}
 
 -- ---- one more connection behind the others
 
@@ -58,9 +56,6 @@ pushed (d ∷ cs) k (suc i) c e = by (pushed cs k i c e)
     by (Last x) = Last x
 
 module _ (cs : List Conn) (k : Conn) where
-  abbrev ds : List Conn
-  ds = cs ++ k ∷ []
-
   announced_front : (by to : ℕ) (kind : Kind) (number : ℕ) (keys : List (List ℕ)) → Announced cs by to kind number keys → Announced (cs ++ k ∷ []) by to kind number keys
   announced_front by to kind number keys h = record { place = h.place; conn = h.conn; is = get_front cs (k ∷ []) h.place h.conn h.is; near = h.near; far = h.far; said = h.said }
 
@@ -143,7 +138,7 @@ module _ (cs : List Conn) (k : Conn) where
         where
           framed : (i : ℕ) (c : Conn) → c.dialer ≡ u → Pushed cs k i c → Each (λ (t : Tabling). IsFramed (story_of t.kind (name_by nobody c.far ls) n) t) (tables_on c)
           framed i c o (Before e) = h.framed i c e o
-          framed i c o (Last e) = nothing_on Rattle.artery_names.proofs.Said.tables_said _ c e
+          framed i c o (Last e) = nothing_on tables_said _ c e
 
           both : (ys : List Answering) → Each (IsOpened u n cs) ys → Each (λ (y : Answering). is_dialed y.uid y.dial k ≡ true → ⊥) ys → Each (IsOpened u n (cs ++ k ∷ [])) ys
           both [] a b = tt
@@ -198,7 +193,7 @@ answers_name k cs fresh read c (w ∷ ws) h = each_both _ (answers_said w.writin
 
 pub record NowJoined (nobody : UniqueAddress) (far number : ℕ) (w : Network) : Type 0 where
   pub names : Names nobody w
-  pub comes : Comes' nobody far number w.connections (journal w)
+  pub comes : MadeJustNow nobody far number w.connections (journal w)
 
 pub joins_names : (nobody : UniqueAddress) (p : Pending) (w : Network) (l : Live whole) (t : Live whole → Bool) → find t w.live ≡ Some l → w.ended ≡ None → Offered p w → Holds w → AllRead w.connections → Names nobody w
     → NowJoined nobody l.node.me.uid (l.accepted + 1) (joins p.dialer p.dial l.node.me.uid (l.accepted + 1) w)
@@ -211,7 +206,7 @@ joins_names nobody p w l t found live o h read names = record {
       reached = single.reached;
       untold = λ a b d. untold a b d (out.untold a b d);
       talks = out.talks;
-      conns = λ i c e'. conns i c (pushed cs k i c e');
+      conns = λ i c at. conns i c (pushed cs k i c at);
     };
     lives = λ e. each_change (λ (x : Live whole). NodeNames nobody (cs ++ k ∷ []) (journal w) x.node) (has_uid far) one_more w.live (λ x f n. record { given = n.given; facts = n.facts; counts = n.counts })
         (each_weaker _ _ (λ (x : Live whole) n. record { given = n.given; facts = node_front cs k o.fresh.made refl unnamed nobody x.node.me.uid n.given x.node (journal w) n.facts; counts = n.counts }) w.live (names.lives live));
@@ -248,7 +243,7 @@ joins_names nobody p w l t found live o h read names = record {
 
     unnamed : (j : ℕ) (c : Conn) → slice_get w.connections j ≡ Some c → Each (λ (y : Answering). is_dialed y.uid y.dial (connected {W = whole_ways} p.dialer p.dial l.node.me.uid (l.accepted + 1)) ≡ true → ⊥) (answers_on c)
     unnamed j c e = answers_name (connected p.dialer p.dial l.node.me.uid (l.accepted + 1)) w.connections o.fresh.made read c c.way.all
-        (each_get (λ (x : Conn). Rattle.artery_flight.proofs.Facts.ConnFacts w.connections x) w.connections j c h.out.conns e).said
+        (each_get (λ (x : Conn). FlightFacts w.connections x) w.connections j c h.out.conns e).said
 
     unanswered : (j : ℕ) (c : Conn) → Pushed w.connections (connected p.dialer p.dial l.node.me.uid (l.accepted + 1)) j c → Each (λ (y : Answering). is_dialed y.uid y.dial (connected {W = whole_ways} p.dialer p.dial l.node.me.uid (l.accepted + 1)) ≡ true → ⊥) (answers_on c)
     unanswered j c (Before e) = unnamed j c e
@@ -267,7 +262,7 @@ joins_names nobody p w l t found live o h read names = record {
 
     far_named : (name_by nobody l.node.me.uid (journal w)).uid ≡ l.node.me.uid
     far_named =
-        let n : NodeNames nobody w.connections (journal w) l.node = Rattle.artery_flight.proofs.Lists.each_find (λ (x : Live whole). NodeNames nobody w.connections (journal w) x.node) t w.live l (names.lives live) found in
+        let n : NodeNames nobody w.connections (journal w) l.node = each_find (λ (x : Live whole). NodeNames nobody w.connections (journal w) x.node) t w.live l (names.lives live) found in
         ap (λ (x : UniqueAddress). x.uid) n.facts.me
 
     nothing_told : (b : UniqueAddress) → told_by (name_by nobody p.dialer (journal w)) b p.dial (journal w) ≡ []

@@ -1,14 +1,12 @@
 -- Rules of a node whose deeds are done outside at once: each keeps the facts.
-use Rattle.std.proofs.Common.{◌≡◌, ℕ, zero, suc, Bool, true, false, cond, List, [], ◌∷◌, refl, sym, ◌∙◌, ap, subst}
-use Rattle.std.specs.Prelude.{Option, None, Some}
+use Rattle.std.proofs.Common.{ℕ, zero, suc, Bool, true, false, cond, List, [], ◌∷◌}
 use Rattle.artery_base.specs.declared.address.Address.{Address}
 use Rattle.artery_base.specs.declared.address.UniqueAddress.{UniqueAddress}
 use Rattle.artery_machine.specs.Parts.{whole}
 use Rattle.artery_machine.specs.Node.{Node}
 use Rattle.artery_machine.specs.Doing.{Rule, ◌▸◌, stays, where_true, each, times}
 use Rattle.artery_names.proofs.Lists.{First}
-use Rattle.artery_names.proofs.Facts.{Network, journal, Good}
-use Rattle.artery_names.proofs.Growing.{Along}
+use Rattle.artery_names.proofs.Facts.{Network, Good}
 use Rattle.artery_names.proofs.Plain.{Plainly, good_plain}
 use Rattle.artery_names.proofs.Outside.{outward}
 use Rattle.artery_names.proofs.Rules.{Work, Plain}

@@ -1,28 +1,25 @@
 -- What a step of one node leaves to the others: their facts stay true.
-use Rattle.std.proofs.Common.{◌≡◌, ℕ, zero, suc, ◌+◌, ◌≤◌, ◌<◌, Bool, true, false, ◌&&◌, List, [], ◌∷◌, ◌++◌, length, take, drop, refl, sym, ◌∙◌, ap, subst, arith, append_assoc, append-nil}
+use Rattle.std.proofs.Common.{◌≡◌, ℕ, zero, suc, ◌+◌, ◌≤◌, Bool, true, List, [], ◌∷◌, ◌++◌, length, take, drop, refl, sym, ◌∙◌, ap, subst, arith, append_assoc, append-nil}
 use Rattle.std.specs.Prelude.{Option, None, Some, ◌==◌, slice_get}
 use Rattle.artery_base.specs.declared.address.Address.{Address}
 use Rattle.artery_base.specs.declared.address.UniqueAddress.{UniqueAddress}
 use Rattle.artery_base.specs.declared.message.Tell.{Tell}
-use Rattle.artery_base.specs.Words.{IsPrefix}
-use Rattle.artery_frame.specs.declared.stream.Stream.TheVariants as streams
 use Rattle.artery_handshake.specs.declared.in_conn.InState.{InState}
 use Rattle.artery_handshake.specs.declared.in_conn.InState.TheVariants.{Raw, Known}
 use Rattle.artery_journal.specs.declared.line.Line.{Line}
 use Rattle.artery_journal.specs.declared.words.Kind.{Kind}
-use Rattle.artery_tables.specs.Story.{Story, IsStory}
-use Rattle.artery_machine.specs.declared.link.Answer.{Answer}
+use Rattle.artery_tables.specs.Story.{Story}
 use Rattle.artery_machine.specs.Parts.{whole}
 use Rattle.artery_machine.specs.Ways.{Wrote}
 use Rattle.artery_machine.specs.Connections.{is_dialed, is_inward}
 use Rattle.artery_machine.specs.Node.{Node, Peer, Inbound, OfKinds, of_kind, incarnation, peer_at, inbound_at}
 use Rattle.artery_names.specs.Versions.{Fits}
-use Rattle.artery_names.proofs.Lists.{by_test, eq_true, eq_self, and_left, and_right, and_both, Each, each_weaker, each_both, each_get, Or, First, Second, Within, within_more}
-use Rattle.artery_names.proofs.Said.{Tabling, Answering, tables_said, answers_said, all_said, carried}
-use Rattle.artery_names.proofs.Talks.{Told, adopted_by, told_by, got_by, name_by, messages, SameTalk, same_talk}
-use Rattle.artery_names.proofs.Facts.{Network, Conn, journal, tables_on, answers_on, Has, Announced, Answered, AtMost, ConnFacts, Out, AreHeld, IsBound, bound_in, PeerFacts, StoryFacts, IsFramed, story_of, stories_of, IsShown, IsState, IsKnown, IsOwed, MayOwe, sent_in, InFacts, Heard, NodeFacts}
+use Rattle.artery_names.proofs.Lists.{eq_true, eq_self, and_right, and_both, Each, each_weaker, each_both, each_get, Or, First, Second, Within, within_more}
+use Rattle.artery_names.proofs.Said.{Tabling, Answering, tables_said, answers_said, all_said}
+use Rattle.artery_names.proofs.Talks.{Told, adopted_by, told_by, got_by, name_by, messages, same_talk}
+use Rattle.artery_names.proofs.Facts.{Network, Conn, journal, tables_on, answers_on, Answered, AtMost, Out, bound_in, PeerFacts, StoryFacts, IsFramed, story_of, stories_of, IsShown, IsState, IsKnown, sent_in, InFacts, Heard, NodeFacts}
 use Rattle.artery_names.proofs.Growing.{Grown, Stepped, stepped_self, stepped_trans, dialed_same, inward_same, Along, along_self, along_trans, along_wider, answered_grows}
-use Rattle.artery_names.proofs.Plain.{Less, Same, same_node, in_plain, bound_grows, all_held_grow}
+use Rattle.artery_names.proofs.Plain.{Same, in_plain, bound_grows, all_held_grow}
 
 -- ---- a step
 

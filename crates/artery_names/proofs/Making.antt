@@ -1,6 +1,6 @@
 -- Making, dialing, writing on control, hanging up and numbered messages say nothing of ordinary messages and tables.
-use Rattle.std.proofs.Common.{◌≡◌, ℕ, ◌+◌, Bool, true, false, cond, List, [], length, refl}
-use Rattle.std.specs.Prelude.{Option, None, Some, nat_lt, not, is_some}
+use Rattle.std.proofs.Common.{◌≡◌, ℕ, ◌+◌, Bool, true, false, length, refl}
+use Rattle.std.specs.Prelude.{Option, None, Some, nat_lt}
 use Rattle.artery_base.specs.declared.address.Address.{Address}
 use Rattle.artery_base.specs.declared.address.UniqueAddress.{UniqueAddress}
 use Rattle.artery_base.specs.declared.message.SysMsg.{SysMsg}
@@ -19,8 +19,8 @@ use Rattle.artery_journal.specs.declared.words.Reason.TheVariants as reasons
 use Rattle.artery_machine.specs.declared.link.Link.{Link}
 use Rattle.artery_machine.specs.Deeds.{Controls, Dials}
 use Rattle.artery_machine.specs.Parts.{whole}
-use Rattle.artery_machine.specs.Node.{Node, Peer, has_peer, peer_at, conn_of, with_link, current_of, incarnation}
-use Rattle.artery_machine.specs.Doing.{Rule, ◌▸◌, stays, where_true, does, becomes, tells_of, writes_on, hangs_up, peer_becomes, each, times}
+use Rattle.artery_machine.specs.Node.{Peer, has_peer, peer_at, conn_of, with_link, current_of, incarnation}
+use Rattle.artery_machine.specs.Doing.{Rule, ◌▸◌, stays, becomes, tells_of, peer_becomes, times}
 use Rattle.artery_machine.specs.Making.{link_dialing, link_gone, link_lost, used_now, one_more_dial, dials_as, dials, last_dial, with_peer_at, makes_missing, may_have, wakes, uses, at_request, loses}
 use Rattle.artery_machine.specs.Closing.{dial_of, control_dial, on_control, on_control_to, quarantines, drops_ordinary}
 use Rattle.artery_machine.specs.Sending.{with_out, keeps_nothing, begins_waiting, pumps_next, pumps_one, pumps, rewinds, tells_sent}
@@ -28,12 +28,12 @@ use Rattle.artery_machine.specs.Handshaking.{change_conn, gives_up}
 use Rattle.artery_machine.specs.Ticking.{drops_control}
 use Rattle.artery_names.proofs.Lists.{on_cond}
 use Rattle.artery_names.proofs.Facts.{bound_in, bound_as}
-use Rattle.artery_names.proofs.Plain.{Less, Gone, Same, Plainly}
+use Rattle.artery_names.proofs.Plain.{Less, Gone, Same}
 use Rattle.artery_names.proofs.Outside.{outward}
-use Rattle.artery_names.proofs.Rules.{Work, Plain, ◌▹◌, SamePeer, same_peer, kept_plain, stays_plain, deed_plain, tells_plain, writes_plain, hangs_plain, becomes_plain, peer_plain, if_plain, where_plain, each_plain, times_plain}
+use Rattle.artery_names.proofs.Rules.{Plain, ◌▹◌, SamePeer, same_peer, kept_plain, stays_plain, deed_plain, tells_plain, writes_plain, hangs_plain, becomes_plain, peer_plain, if_plain, times_plain}
 use Rattle.artery_names.proofs.Keeping.{Keeps, ◌▻◌, plain_keeps, if_keeps}
 use Rattle.artery_names.proofs.Peers.{made_node}
-use Rattle.artery_names.proofs.Silence.{is_silent, silent, is_plain, plain}
+use Rattle.artery_names.proofs.Silence.{silent, is_plain, plain}
 
 -- ---- links
 

@@ -1,11 +1,10 @@
 -- A name that was written by a table means the name that was told, where the number of the table fits.
-use Rattle.std.proofs.Common.{◌≡◌, ℕ, zero, suc, ◌+◌, ◌≤◌, ◌<◌, Bool, true, false, cond, List, [], ◌∷◌, ◌++◌, length, take, drop, map, refl, sym, ◌∙◌, ap, subst, arith}
+use Rattle.std.proofs.Common.{◌≡◌, ℕ, zero, suc, ◌+◌, ◌≤◌, ◌<◌, Bool, List, [], ◌∷◌, length, refl, sym, ◌∙◌, ap, subst, arith}
 use Rattle.std.specs.Prelude.{Option, None, Some, Result, Ok, Err, slice_get}
 use Rattle.std.specs.Option.{option_map}
 use Rattle.artery_base.specs.declared.address.Address.{Address}
 use Rattle.artery_base.specs.declared.address.UniqueAddress.{UniqueAddress}
 use Rattle.artery_base.specs.Words.{◌>>=◌}
-use Rattle.artery_base.specs.declared.message.Tell.{Tell}
 use Rattle.artery_header.specs.declared.envelope.Which.{Which}
 use Rattle.artery_header.specs.declared.envelope.Which.TheVariants.{Sender, Recipient, Manifest}
 use Rattle.artery_header.specs.Envelope.{NameOf, Literal, Index, EnvelopeOf}
@@ -14,19 +13,18 @@ use Rattle.artery_journal.specs.declared.words.Kind.{Kind}
 use Rattle.artery_journal.specs.declared.words.Kind.TheVariants.{Refs, Manifests}
 use Rattle.artery_tables.specs.declared.table.Table.{Table}
 use Rattle.artery_tables.specs.declared.table.TableFault.{TableFault}
-use Rattle.artery_tables.specs.Story.{Story, IsStory, version_of, table_of, numbered, number_of, names_in, names_of, name_or_fault, entry_in, entry_of}
-use Rattle.artery_codec.specs.declared.message.DropRule.{DropRule}
-use Rattle.artery_codec.specs.Meaning.{Meaning, Entries, ruled, name_meaning, envelope_meaning}
+use Rattle.artery_tables.specs.Story.{Story, IsStory, version_of, table_of, numbered, number_of, names_in, name_or_fault, entry_in, entry_of}
+use Rattle.artery_codec.specs.Meaning.{Meaning, ruled, name_meaning, envelope_meaning}
 use Rattle.artery_machine.specs.Parts.{whole}
-use Rattle.artery_machine.specs.Node.{Node, OfKinds, of_kind}
+use Rattle.artery_machine.specs.Node.{Node, of_kind}
 use Rattle.artery_machine.specs.Hearing.{tell_of}
 use Rattle.artery_machine.specs.Ticking.{numbers_from}
 use Rattle.artery_names.specs.Versions.{Fits}
-use Rattle.artery_names.proofs.Lists.{not_some, some_same, Each, each_get, Or, First, Second}
+use Rattle.artery_names.proofs.Lists.{not_some, each_get, First, Second}
 use Rattle.artery_names.proofs.Numbers.{number_is}
 use Rattle.artery_names.proofs.Said.{Tabling}
 use Rattle.artery_names.proofs.Talks.{Told, adopted_by, name_by}
-use Rattle.artery_names.proofs.Facts.{Conn, tables_on, Announced, Entry, IsNamed, IsWritten, AtMost, IsAnnounced, StoryFacts, IsFramed, story_of, NodeFacts}
+use Rattle.artery_names.proofs.Facts.{Conn, tables_on, Announced, IsNamed, IsWritten, IsAnnounced, IsFramed, story_of, NodeFacts}
 
 pub ok_same : {X E : Type 0} {x y : X} (r : Result X E) → r ≡ Ok x → r ≡ Ok y → x ≡ y
 ok_same r h k = cc

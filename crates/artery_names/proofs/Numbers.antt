@@ -1,13 +1,10 @@
 -- The number that is found by the version of a number.
-use Rattle.std.proofs.Common.{◌≡◌, ℕ, zero, suc, ◌+◌, ◌≤◌, ◌<◌, Bool, true, false, cond, List, [], ◌∷◌, ◌++◌, length, refl, sym, ◌∙◌, ap, subst, arith}
+use Rattle.std.proofs.Common.{◌≡◌, ℕ, zero, suc, ◌+◌, ◌≤◌, ◌<◌, length, refl, sym, arith}
 use Rattle.std.proofs.Math.Nat.{div-add-mod}
-use Rattle.std.specs.Prelude.{◌%◌, ◌/◌, ◌*◌, ◌-◌, Option, None, Some, ◌==◌}
-use Rattle.std.specs.List.{find}
-use Rattle.std.proofs.lemmas.Bool.Decides.{nat_tests}
+use Rattle.std.specs.Prelude.{◌%◌, ◌/◌, ◌*◌, Some}
 use Rattle.artery_tables.specs.Story.{Story, IsStory, IsKnown, Nothing, Announced, version_of, number_of}
 use Rattle.artery_tables.proofs.Numbers.{number_found}
-use Rattle.artery_names.specs.Versions.{Fits, versions}
-use Rattle.artery_names.proofs.Lists.{some_same}
+use Rattle.artery_names.specs.Versions.{Fits}
 
 -- numbers from 1 on that are less than 127 apart and have one version are one
 one_version : (s t : ℕ) → 0 < s → 0 < t → s < t + 127 → t < s + 127 → version_of s ≡ version_of t → s ≡ t

@@ -1,5 +1,5 @@
 -- The ordinary law of the journal of a network.
-use Rattle.std.proofs.Common.{◌≡◌, ℕ, Bool, true, false, ◌&&◌, ◌||◌, cond, List, [], ◌∷◌, ◌++◌, map, refl, sym, ◌∙◌, ap, subst, append_assoc, append-nil, rules}
+use Rattle.std.proofs.Common.{◌≡◌, ℕ, Bool, true, false, ◌&&◌, ◌||◌, cond, List, [], ◌∷◌, ◌++◌, refl, sym, ◌∙◌, ap, subst, append_assoc, append-nil, rules}
 use Rattle.std.specs.Prelude.{Option, Some, None, not}
 use Rattle.std.specs.Cmp.Rules.{comparing}
 use Rattle.artery_base.specs.declared.address.UniqueAddress.{UniqueAddress}
@@ -18,7 +18,7 @@ use Rattle.artery_alone.specs.Network.{journal_of, journal}
 use Rattle.artery_flight.specs.Answers.{AreReadBack}
 use Rattle.artery_flight.proofs.Meetings.{all_read}
 use Rattle.artery_names.specs.Ordinary.{ordinary_law}
-use Rattle.artery_names.proofs.Lists.{Within, First, Second, Or}
+use Rattle.artery_names.proofs.Lists.{Within, First, Second}
 use Rattle.artery_names.proofs.Talks.{Told, adopted_by, told_by, told_more, got_by, got_more, messages, newest}
 use Rattle.artery_names.proofs.Facts.{KeepsOrdinary, IsLawful}
 use Rattle.artery_names.proofs.Worlds.{Names}

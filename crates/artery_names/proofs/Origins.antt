@@ -1,6 +1,6 @@
 -- An origin that is changed: its stories go on.
-use Rattle.std.proofs.Common.{◌≡◌, ℕ, ◌+◌, ◌≤◌, Bool, true, false, ◌&&◌, cond, List, [], ◌∷◌, length, drop, refl, sym, ◌∙◌, ap, subst, arith}
-use Rattle.std.specs.Prelude.{Option, None, Some, ◌==◌}
+use Rattle.std.proofs.Common.{◌≡◌, ℕ, ◌+◌, ◌≤◌, Bool, true, false, cond, List, [], ◌∷◌, length, drop, refl, sym, ◌∙◌, ap, subst, arith}
+use Rattle.std.specs.Prelude.{None, Some, ◌==◌}
 use Rattle.std.specs.List.{find}
 use Rattle.artery_base.specs.Words.{IsPrefix}
 use Rattle.artery_base.specs.declared.address.Address.{Address}
@@ -9,7 +9,7 @@ use Rattle.artery_frame.specs.declared.stream.Stream.TheVariants as streams
 use Rattle.artery_journal.specs.declared.line.Line.{Line}
 use Rattle.artery_journal.specs.declared.words.Kind.{Kind}
 use Rattle.artery_journal.specs.declared.words.Kind.TheVariants.{Refs, Manifests}
-use Rattle.artery_tables.specs.Story.{Story, IsStory}
+use Rattle.artery_tables.specs.Story.{Story}
 use Rattle.artery_tables.specs.InTables.{State as Announcing, is_announced, confirmed}
 use Rattle.artery_machine.specs.Lists.{or_else, change_first}
 use Rattle.artery_machine.specs.Parts.{whole}
@@ -19,9 +19,9 @@ use Rattle.artery_names.specs.Versions.{Fits}
 use Rattle.artery_names.proofs.Lists.{by_test, on_cond, not_both, eq_true, and_left, and_right, Each, each_weaker, get_prefix, prefix_self}
 use Rattle.artery_names.proofs.Said.{Tabling, carried}
 use Rattle.artery_names.proofs.Talks.{Told, adopted_by, told_by, name_by}
-use Rattle.artery_names.proofs.Facts.{Network, Conn, journal, tables_on, StoryFacts, IsFramed, story_of, stories_of, sent_in, InFacts, Heard, NodeFacts, Good}
+use Rattle.artery_names.proofs.Facts.{Network, Conn, journal, tables_on, StoryFacts, IsFramed, story_of, stories_of, sent_in, Heard, NodeFacts, Good}
 use Rattle.artery_names.proofs.Keeping.{nowhere}
-use Rattle.artery_names.proofs.Peers.{unique_is, unique_self}
+use Rattle.artery_names.proofs.Peers.{unique_is}
 
 -- what holds of the origin that is read by a name, once the first of another one, or that, changed
 pub on_origin : (v w : UniqueAddress) (m : ℕ) (g : Origin whole → Origin whole) → ((o : Origin whole) → (g o).who ≡ o.who) → (K : Origin whole → Type 0) (os : List (Origin whole))
@@ -33,8 +33,8 @@ on_origin v w m g s K (o ∷ os) here none away = by (is_origin v o) refl (is_or
     Here : List (Origin whole) → Type 0
     Here xs = w ≡ v → (x : Origin whole) → find (is_origin v) xs ≡ Some x → K (g x)
 
-    None' : List (Origin whole) → Type 0
-    None' xs = w ≡ v → find (is_origin v) xs ≡ None → K (new_origin m w)
+    Missing : List (Origin whole) → Type 0
+    Missing xs = w ≡ v → find (is_origin v) xs ≡ None → K (new_origin m w)
 
     Away : List (Origin whole) → Type 0
     Away xs = same_unique v w ≡ false → K (or_else (new_origin m w) (find (is_origin w) xs))
@@ -42,7 +42,7 @@ on_origin v w m g s K (o ∷ os) here none away = by (is_origin v o) refl (is_or
     found : (x : Origin whole) (c : Bool) → is_origin w x ≡ c → or_else (new_origin m w) (find (is_origin w) (x ∷ os)) ≡ or_else (new_origin m w) (cond c (Some x) (find (is_origin w) os))
     found x c e = ap (λ (b : Bool). or_else (new_origin m w) (cond b (Some x) (find (is_origin w) os))) e
 
-    by : (x : Bool) → is_origin v o ≡ x → (y : Bool) → is_origin w o ≡ y → Here (o ∷ os) → None' (o ∷ os) → Away (o ∷ os) → (Here os → None' os → Away os → K (or_else (new_origin m w) (find (is_origin w) (change_first (is_origin v) g os))))
+    by : (x : Bool) → is_origin v o ≡ x → (y : Bool) → is_origin w o ≡ y → Here (o ∷ os) → Missing (o ∷ os) → Away (o ∷ os) → (Here os → Missing os → Away os → K (or_else (new_origin m w) (find (is_origin w) (change_first (is_origin v) g os))))
         → K (or_else (new_origin m w) (find (is_origin w) (cond x (g o ∷ os) (o ∷ change_first (is_origin v) g os))))
     by true e true f h n a rest =
         let same : w ≡ v = sym (unique_is o.who w f) ∙ unique_is o.who v e in

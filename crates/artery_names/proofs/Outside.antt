@@ -1,17 +1,15 @@
 -- Deeds outside that say nothing of ordinary messages and tables.
-use Rattle.std.proofs.Common.{◌≡◌, ℕ, Bool, true, false, ◌&&◌, cond, List, [], ◌∷◌, ◌++◌, length, refl, sym, ◌∙◌, ap, subst, append-nil}
+use Rattle.std.proofs.Common.{◌≡◌, ℕ, true, List, [], ◌∷◌, ◌++◌, length, refl, sym, ◌∙◌, ap, subst, append-nil}
 use Rattle.std.specs.Prelude.{Option, None, Some, ◌==◌, not, is_none, slice_get, slice_set}
-use Rattle.artery_base.specs.declared.address.Address.{Address}
 use Rattle.artery_frame.specs.declared.stream.Stream.{Stream}
 use Rattle.artery_journal.specs.declared.line.Line.{Line}
 use Rattle.artery_judge.specs.Lines.{says_got}
 use Rattle.artery_machine.specs.declared.input.Conn.TheVariants.{Outward, Inward}
-use Rattle.artery_machine.specs.declared.world.Outcome.{Outcome}
 use Rattle.artery_machine.specs.declared.world.Outcome.TheVariants as outcomes
 use Rattle.artery_machine.specs.declared.world.WorldLimit.{WorldLimit}
 use Rattle.artery_machine.specs.declared.world.WorldLimit.TheVariants as limits
 use Rattle.artery_machine.specs.Lists.{put_at}
-use Rattle.artery_machine.specs.Deeds.{Writing, Begins, Controls, Sends, Deed, Dials, Writes, Hangs, Tells, bytes_of}
+use Rattle.artery_machine.specs.Deeds.{Writing, Begins, Deed, Dials, Writes, Hangs, Tells, bytes_of}
 use Rattle.artery_machine.specs.Parts.{whole}
 use Rattle.artery_machine.specs.Ways.{Wrote, whole_ways}
 use Rattle.artery_machine.specs.Connections.{is_dialed, near_ended, far_ended, with_writing, place_dialed, place_inward}
@@ -19,7 +17,7 @@ use Rattle.artery_machine.specs.Doing.{Sink}
 use Rattle.artery_machine.specs.World.{Change, stays, going_on, ends, by_found, by_connection, connection_becomes, comes_out, is_too_much, writes, does as does_outside}
 use Rattle.artery_names.proofs.Lists.{by_option, on_cond, not_both, not_some, eq_true, and_left, prefix_self, position_passes}
 use Rattle.artery_names.proofs.Said.{sends_said, tables_said, acks_said, answers_said, speakers_said, all_said, said_append}
-use Rattle.artery_names.proofs.Talks.{newest, newest_line, newest_wrote, IsSilent, SameTalk, same_talk, same_then, silent_same}
+use Rattle.artery_names.proofs.Talks.{newest_line, newest_wrote, IsSilent, SameTalk, same_talk, same_then, silent_same}
 use Rattle.artery_names.proofs.Facts.{Network, Conn, journal, KeepsOrdinary, IsLawful}
 use Rattle.artery_names.proofs.Growing.{Grown, Still, still_self, still_trans, Stepped, stepped_self, stepped_trans, Along, along_self, along_trans, along_set}
 

@@ -1,16 +1,16 @@
 -- A peer that is changed by its address, and a peer that is made.
-use Rattle.std.proofs.Common.{◌≡◌, ℕ, Bool, true, false, cond, List, [], ◌∷◌, ◌++◌, refl, sym, ◌∙◌, ap, subst, rules}
-use Rattle.std.specs.Prelude.{Option, None, Some}
+use Rattle.std.proofs.Common.{◌≡◌, Bool, true, false, cond, List, [], ◌∷◌, ◌++◌, refl, sym, ◌∙◌, ap, subst, rules}
+use Rattle.std.specs.Prelude.{None, Some}
 use Rattle.std.specs.List.{find}
 use Rattle.std.specs.Cmp.Rules.{comparing}
 use Rattle.artery_base.specs.declared.address.Address.{Address}
 use Rattle.artery_base.specs.declared.address.UniqueAddress.{UniqueAddress}
 use Rattle.artery_machine.specs.Lists.{or_else, change_first}
 use Rattle.artery_machine.specs.Parts.{whole}
-use Rattle.artery_machine.specs.Node.{Node, Peer, same_address, same_unique, new_peer, is_peer, peer_at}
+use Rattle.artery_machine.specs.Node.{Node, Peer, same_address, same_unique, new_peer, is_peer}
 use Rattle.artery_machine.specs.Making.{with_peer_at}
-use Rattle.artery_names.proofs.Lists.{by_test, not_both, not_some, some_same}
-use Rattle.artery_names.proofs.Plain.{Same, SameNode}
+use Rattle.artery_names.proofs.Lists.{by_test, not_both}
+use Rattle.artery_names.proofs.Plain.{SameNode}
 use Rattle.artery_names.proofs.Rules.{SamePeer, same_peer, peers_node}
 
 pub address_is : (a b : Address) → same_address a b ≡ true → a ≡ b
@@ -35,8 +35,8 @@ on_changed a b g s K (p ∷ ps) here none away = by (is_peer a p) refl (is_peer 
     Here : List (Peer whole) → Type 0
     Here qs = b ≡ a → (q : Peer whole) → find (is_peer a) qs ≡ Some q → K (g q)
 
-    None' : List (Peer whole) → Type 0
-    None' qs = b ≡ a → find (is_peer a) qs ≡ None → K (new_peer b)
+    Missing : List (Peer whole) → Type 0
+    Missing qs = b ≡ a → find (is_peer a) qs ≡ None → K (new_peer b)
 
     Away : List (Peer whole) → Type 0
     Away qs = same_address a b ≡ false → K (or_else (new_peer b) (find (is_peer b) qs))
@@ -47,7 +47,7 @@ on_changed a b g s K (p ∷ ps) here none away = by (is_peer a p) refl (is_peer 
     found : (q : Peer whole) (c : Bool) → is_peer b q ≡ c → or_else (new_peer b) (find (is_peer b) (q ∷ ps)) ≡ or_else (new_peer b) (cond c (Some q) (find (is_peer b) ps))
     found q c e = ap (λ (x : Bool). or_else (new_peer b) (cond x (Some q) (find (is_peer b) ps))) e
 
-    by : (x : Bool) → is_peer a p ≡ x → (y : Bool) → is_peer b p ≡ y → Here (p ∷ ps) → None' (p ∷ ps) → Away (p ∷ ps) → (Here ps → None' ps → Away ps → K (or_else (new_peer b) (find (is_peer b) (change_first (is_peer a) g ps))))
+    by : (x : Bool) → is_peer a p ≡ x → (y : Bool) → is_peer b p ≡ y → Here (p ∷ ps) → Missing (p ∷ ps) → Away (p ∷ ps) → (Here ps → Missing ps → Away ps → K (or_else (new_peer b) (find (is_peer b) (change_first (is_peer a) g ps))))
         → K (or_else (new_peer b) (find (is_peer b) (cond x (g p ∷ ps) (p ∷ change_first (is_peer a) g ps))))
     by true e true f h n w rest =
         let same : b ≡ a = sym (address_is p.incarnations.address b f) ∙ address_is p.incarnations.address a e in

@@ -7,7 +7,6 @@ use Rattle.artery_base.specs.declared.message.Tell.{Tell}
 use Rattle.artery_assoc.specs.Peer.{PeerState, is_closed, is_that}
 use Rattle.artery_frame.specs.declared.stream.Stream.TheVariants as streams
 use Rattle.artery_handshake.specs.declared.in_conn.InState.{InState}
-use Rattle.artery_handshake.specs.declared.in_conn.InState.TheVariants.{Raw, Known}
 use Rattle.artery_header.specs.Envelope.{EnvelopeOf}
 use Rattle.artery_journal.specs.declared.line.Line.{Line}
 use Rattle.artery_journal.specs.declared.words.Kind.{Kind}
@@ -15,15 +14,15 @@ use Rattle.artery_tables.specs.Story.{Story}
 use Rattle.artery_tables.specs.OutTable.{State as Adopted}
 use Rattle.artery_machine.specs.declared.link.Answer.{Answer}
 use Rattle.artery_machine.specs.Parts.{whole}
-use Rattle.artery_machine.specs.Connections.{is_dialed, is_inward}
-use Rattle.artery_machine.specs.Node.{Node, Peer, Inbound, OfKinds, of_kind, of_each, incarnation, peer_at, inbound_at, origin_at}
+use Rattle.artery_machine.specs.Connections.{is_dialed}
+use Rattle.artery_machine.specs.Node.{Node, Peer, Inbound, OfKinds, of_kind, incarnation, peer_at, inbound_at}
 use Rattle.artery_machine.specs.Ticking.{numbers_from}
 use Rattle.artery_names.specs.Versions.{Fits}
-use Rattle.artery_names.proofs.Lists.{Each, each_weaker, Or, First, Second, Within, some_same, not_some}
-use Rattle.artery_names.proofs.Said.{Tabling, Acking, Answering, carried}
+use Rattle.artery_names.proofs.Lists.{Each, each_weaker, Or, First, Second, Within}
+use Rattle.artery_names.proofs.Said.{Tabling, Acking, Answering}
 use Rattle.artery_names.proofs.Talks.{Told, adopted_by, told_by, got_by, name_by, messages, SameTalk, SameSaid, same_said, same_talk, same_then}
-use Rattle.artery_names.proofs.Facts.{Network, Conn, journal, sends_on, tables_on, acks_on, answers_on, Announced, Answered, Made, AreWritten, AtMost, AreRising, TalkFacts, ConnFacts, IsLawful, IsAnnounced, Out, IsHeld, Holds, AreHeld, BoundTo, IsBound, bound_in, PeerFacts, StoryFacts, IsFramed, story_of, stories_of, IsShown, IsState, IsKnown, IsOwed, MayOwe, sent_in, InFacts, Heard, Rises, numbers_in, NodeFacts, Good}
-use Rattle.artery_names.proofs.Growing.{Grown, Still, still_self, still_trans, Stepped, stepped_self, stepped_trans, dialed_same, inward_same, carried_more, sent_same, length_prefix, Back, Forth, Along, along_self, along_trans, along_wider, announced_grows, answered_grows, made_grows, all_written_grow}
+use Rattle.artery_names.proofs.Facts.{Network, Conn, journal, sends_on, tables_on, acks_on, answers_on, Made, AreWritten, AtMost, AreRising, TalkFacts, ConnFacts, IsLawful, IsAnnounced, Out, IsHeld, AreHeld, IsBound, bound_in, PeerFacts, StoryFacts, IsFramed, story_of, stories_of, IsShown, IsState, IsKnown, MayOwe, sent_in, InFacts, Heard, Rises, numbers_in, NodeFacts, Good}
+use Rattle.artery_names.proofs.Growing.{Grown, Still, still_self, still_trans, Stepped, stepped_self, stepped_trans, dialed_same, inward_same, carried_more, sent_same, length_prefix, Along, along_self, along_trans, along_wider, announced_grows, answered_grows, made_grows, all_written_grow}
 
 -- ---- what a node knows of these
 

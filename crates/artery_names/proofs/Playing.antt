@@ -1,6 +1,7 @@
 -- A script is played: the facts of names stay true beside those of what is in flight.
 use Rattle.std.proofs.Common.{◌≡◌, ℕ, zero, suc, ◌+◌, ◌-◌, ◌≤◌, Bool, true, false, ◌&&◌, cond, List, [], ◌∷◌, ◌++◌, length, take, drop, map, refl, sym, ◌∙◌, ap, subst, arith, take-append-drop, length-drop}
-use Rattle.std.specs.Prelude.{Option, None, Some, ◌==◌, nat_lt, not, is_none, is_some, position, remove, slice_get}
+use Rattle.std.specs.Prelude.{Option, None, Some, ◌==◌, nat_lt, not, is_none, position, remove, slice_get}
+use Rattle.std.specs.List.{find}
 use Rattle.artery_base.specs.declared.address.UniqueAddress.{UniqueAddress}
 use Rattle.artery_journal.specs.declared.line.Line.{Line}
 use Rattle.artery_journal.specs.declared.line.Line.TheVariants as lines
@@ -18,24 +19,24 @@ use Rattle.artery_machine.specs.declared.world.WorldLimit.{WorldLimit}
 use Rattle.artery_machine.specs.declared.world.WorldLimit.TheVariants as limits
 use Rattle.artery_machine.specs.Parts.{whole}
 use Rattle.artery_machine.specs.Ways.{whole_ways}
-use Rattle.artery_machine.specs.Connections.{connected, is_inward, far_open, undelivered_on, is_loaded, load, near_ended, far_ended, ended_with, with_delivered, place_dialed}
-use Rattle.artery_machine.specs.Node.{OfKinds, of_kind, of_each}
+use Rattle.artery_machine.specs.Connections.{connected, far_open, undelivered_on, is_loaded, load, near_ended, far_ended, ended_with, with_delivered, place_dialed}
+use Rattle.artery_machine.specs.Node.{of_kind, of_each}
 use Rattle.artery_machine.specs.Reacting.{step}
-use Rattle.artery_machine.specs.World.{Live, Pending, Change, stays, going_on, ends, by_found, each, each_place, times, ◌⟫◌, has_uid, lives_at, live_of, live_at, connection_at, connection_becomes, by_connection, comes_out, follows, gives, was_started, gone, stops_one, joins, connects, answers, settled, settles, no_longer, by_pending_at, by_pending, is_pending, fails, pieces, piece_size, carries, cuts, ends_far, where_it, for_each, carries_all, settles_first, settles_next, passes_once, refusal, happens, unless_refused, applies, nothing, most_connections}
+use Rattle.artery_machine.specs.World.{Live, Pending, Change, stays, going_on, ends, by_found, each, each_place, times, ◌⟫◌, has_uid, lives_at, live_of, live_at, connection_at, connection_becomes, by_connection, comes_out, follows, gives, gone, stops_one, joins, connects, settled, settles, no_longer, by_pending_at, by_pending, is_pending, fails, pieces, piece_size, carries, cuts, ends_far, where_it, for_each, carries_all, settles_first, settles_next, passes_once, refusal, happens, unless_refused, applies, nothing, most_connections}
 use Rattle.artery_machine.specs.Playing.{fault_of, goes_on, plays, run}
 use Rattle.artery_flight.proofs.Lists.{each_filter}
 use Rattle.artery_flight.proofs.Grow.{AllRead, read_front}
 use Rattle.artery_flight.proofs.Facts.{silent_grow}
-use Rattle.artery_flight.proofs.Deeds.{nobody as none_of_them, near_quiet, far_quiet}
+use Rattle.artery_flight.proofs.Deeds.{nobody as none_of_them, near_quiet, far_quiet, IsQuiet}
 use Rattle.artery_flight.proofs.Feeding.{nothing_left, left_to}
 use Rattle.artery_flight.proofs.Networks.{HoldsBut, Holds}
 use Rattle.artery_flight.proofs.Starting.{becomes_holds, ends_holds, outcome_holds, gone_holds}
 use Rattle.artery_flight.proofs.Joining.{Offered, Removed, removed, Joined, joined, accepted_later}
 use Rattle.artery_flight.proofs.Playing.{delivered_holds, piece_holds, no_bytes, shorter, nothing_to, take_within, not_started, nothing_holds}
-use Rattle.artery_names.proofs.Lists.{on_cond, none_is, not_both, not_some, some_same, eq_true, eq_self, and_both, Each, First, prefix_self}
-use Rattle.artery_names.proofs.Talks.{adopted_by, newest_line, same_talk, silent_same}
+use Rattle.artery_names.proofs.Lists.{on_cond, none_is, not_both, not_some, some_same, eq_self, and_both, First, prefix_self}
+use Rattle.artery_names.proofs.Talks.{newest_line, same_talk, silent_same, SameTalk}
 use Rattle.artery_names.proofs.Facts.{Network, Conn, journal, IsLawful}
-use Rattle.artery_names.proofs.Growing.{Grown, grown_trans, Still, still_self, still_trans, Stepped, Back, Forth, Along, along_self}
+use Rattle.artery_names.proofs.Growing.{Still, still_self, still_trans, Along, along_self}
 use Rattle.artery_names.proofs.Outside.{Quietly, becomes_quietly, silent_lawful}
 use Rattle.artery_names.proofs.Silence.{silent}
 use Rattle.artery_names.proofs.Worlds.{Names, Both, Quiet, quiet_both, gives_both}
@@ -78,7 +79,7 @@ stopped_quiet l w =
     let is : journal (comes_out (outcomes.Line l.node.moment (lines.Stopped l.node.me)) w) ≡ line ∷ journal w = newest_line w.outcomes [] l.node.moment line in
     record {
       conns = along_self Still still_self w.connections;
-      talk = subst (Rattle.artery_names.proofs.Talks.SameTalk (journal w)) (sym is) (silent_same line (journal w) (silent line refl));
+      talk = subst (SameTalk (journal w)) (sym is) (silent_same line (journal w) (silent line refl));
       lawful = λ h. subst IsLawful (sym is) (silent_lawful line (journal w) refl h);
       live = λ P k. k;
       started = refl;
@@ -120,40 +121,37 @@ gone_quiet uid w = record {
 }
 
 module _ (nobody : UniqueAddress) where
-  abbrev All : Network → Type 0
-  All w = Both nobody nothing_left w
+  abbrev SafeBoth : Change whole whole_ways → Type 0
+  SafeBoth change = (w : Network) → w.ended ≡ None → Both nobody nothing_left w → Both nobody nothing_left (change w)
 
-  abbrev Safe' : Change whole whole_ways → Type 0
-  Safe' change = (w : Network) → w.ended ≡ None → Both nobody nothing_left w → Both nobody nothing_left (change w)
-
-  abbrev SafeAt' : (ℕ → Conn → Change whole whole_ways) → Type 0
-  SafeAt' c = (i : ℕ) (x : Conn) (w : Network) → slice_get w.connections i ≡ Some x → w.ended ≡ None → Both nobody nothing_left w → Both nobody nothing_left (c i x w)
+  abbrev SafeBothAt : (ℕ → Conn → Change whole whole_ways) → Type 0
+  SafeBothAt c = (i : ℕ) (x : Conn) (w : Network) → slice_get w.connections i ≡ Some x → w.ended ≡ None → Both nobody nothing_left w → Both nobody nothing_left (c i x w)
 
   -- ---- one after the other
 
-  going_both : (c : Change whole whole_ways) → Safe' c → (w : Network) → Both nobody nothing_left w → Both nobody nothing_left (going_on c w)
+  going_both : (c : Change whole whole_ways) → SafeBoth c → (w : Network) → Both nobody nothing_left w → Both nobody nothing_left (going_on c w)
   going_both c a w h = on_cond (Both nobody nothing_left) (is_none w.ended) (c w) w (λ t. a w (none_is w.ended t) h) (λ t. h)
 
-  places_both : (first n : ℕ) (c : ℕ → Change whole whole_ways) → ((place : ℕ) → Safe' (c place)) → (w : Network) → Both nobody nothing_left w → Both nobody nothing_left (each_place first n c w)
+  places_both : (first n : ℕ) (c : ℕ → Change whole whole_ways) → ((place : ℕ) → SafeBoth (c place)) → (w : Network) → Both nobody nothing_left w → Both nobody nothing_left (each_place first n c w)
   places_both first zero c a w h = h
   places_both first (suc n) c a w h = places_both (first + 1) n c a (going_on (c first) w) (going_both (c first) (a first) w h)
 
-  times_both : (n : ℕ) (c : Change whole whole_ways) → Safe' c → (w : Network) → Both nobody nothing_left w → Both nobody nothing_left (times n c w)
+  times_both : (n : ℕ) (c : Change whole whole_ways) → SafeBoth c → (w : Network) → Both nobody nothing_left w → Both nobody nothing_left (times n c w)
   times_both zero c a w h = h
   times_both (suc n) c a w h = times_both n c a (going_on c w) (going_both c a w h)
 
-  found_both : {X : Type 0} (c : X → Change whole whole_ways) → ((x : X) → Safe' (c x)) → (x : Option X) → Safe' (by_found c x)
+  found_both : {X : Type 0} (c : X → Change whole whole_ways) → ((x : X) → SafeBoth (c x)) → (x : Option X) → SafeBoth (by_found c x)
   found_both c a None w live h = h
   found_both c a (Some x) w live h = a x w live h
 
-  at_place_both : (c : ℕ → Conn → Change whole whole_ways) → SafeAt' c → (i : ℕ) → Safe' (by_connection c i)
+  at_place_both : (c : ℕ → Conn → Change whole whole_ways) → SafeBothAt c → (i : ℕ) → SafeBoth (by_connection c i)
   at_place_both c a i w live h = by (connection_at i w) refl
     where
       by : (x : Option Conn) → connection_at i w ≡ x → Both nobody nothing_left (by_found (c i) x w)
       by None e = h
       by (Some x) e = a i x w e live h
 
-  becomes_both : (g : Conn → Conn) → IsStill g → Rattle.artery_flight.proofs.Deeds.IsQuiet g → (i : ℕ) (w : Network) → Both nobody nothing_left w → Both nobody nothing_left (connection_becomes g i w)
+  becomes_both : (g : Conn → Conn) → IsStill g → IsQuiet g → (i : ℕ) (w : Network) → Both nobody nothing_left w → Both nobody nothing_left (connection_becomes g i w)
   becomes_both g s q i w h = quiet_both nobody nothing_left nothing_left w (connection_becomes g i w) (becomes_quiet g s i w) (becomes_holds g q i w h.holds) h
 
   -- ---- bytes that arrive
@@ -169,7 +167,6 @@ module _ (nobody : UniqueAddress) where
 
       absent : is_none w.ended ≡ true → live_of c.far w ≡ None → HoldsBut (left_to c rest) w
       absent t e =
-          let F : Live whole → Change whole whole_ways = λ l. follows c.far (step (inputs.Bytes c.number piece) l.node) in
           let P : Bool → Type 0 = λ b. HoldsBut (left_to c rest) (cond b (by_found (λ l. follows c.far (step (inputs.Bytes c.number piece) l.node)) (live_of c.far w) w) w) in
           let Q : Option (Live whole) → Type 0 = λ x. HoldsBut (left_to c rest) (by_found (λ l. follows c.far (step (inputs.Bytes c.number piece) l.node)) x w) in
           subst Q e (subst P t holds)
@@ -197,31 +194,31 @@ module _ (nobody : UniqueAddress) where
       by false e rest = rest (going_on (gives c.far (inputs.Bytes c.number (take piece_size bytes))) w)
           (piece_both c (take piece_size bytes) (drop piece_size bytes) w (subst (λ bs. Both nobody (left_to c bs) w) (sym (take-append-drop piece_size bytes)) h))
 
-  carries_both : (n : ℕ) → SafeAt' (carries n)
+  carries_both : (n : ℕ) → SafeBothAt (carries n)
   carries_both n i c w e live h = pieces_both n c (take n (undelivered_on c)) (connection_becomes (with_delivered n) i w) (take_within n (undelivered_on c))
       (quiet_both nobody nothing_left (left_to c (take n (undelivered_on c))) w (connection_becomes (with_delivered n) i w) (becomes_quiet (with_delivered n) (delivered_still n) i w) (delivered_holds n i c w e h.holds) h)
 
   -- ---- ends
 
-  cuts_both : SafeAt' cuts
+  cuts_both : SafeBothAt cuts
   cuts_both i c w e live h =
       let v : Network = connection_becomes near_ended i w in
       let b : Both nobody nothing_left v = becomes_both near_ended near_still near_quiet i w h in
       gives_both nobody c.dialer (inputs.Ended (Outward c.dial)) nothing_left nothing_left v live (λ q x. tt) (λ x. b.holds) (λ f j. refl) tt b
 
-  far_both : SafeAt' ends_far
+  far_both : SafeBothAt ends_far
   far_both i c w e live h =
       let v : Network = connection_becomes far_ended i w in
       let b : Both nobody nothing_left v = becomes_both far_ended far_still far_quiet i w h in
       gives_both nobody c.far (inputs.Ended (Inward c.number)) nothing_left nothing_left v live (λ q x. tt) (λ x. b.holds) (λ f j. refl) tt b
 
-  where_both : (test : Conn → Bool) (c : ℕ → Conn → Change whole whole_ways) → SafeAt' c → SafeAt' (where_it test c)
+  where_both : (test : Conn → Bool) (c : ℕ → Conn → Change whole whole_ways) → SafeBothAt c → SafeBothAt (where_it test c)
   where_both test c a i x w e live h = on_cond (λ (d : Change whole whole_ways). Both nobody nothing_left (d w)) (test x) (c i x) stays (λ t. a i x w e live h) (λ t. h)
 
-  for_each_both : (test : Conn → Bool) (c : ℕ → Conn → Change whole whole_ways) → SafeAt' c → (w : Network) → Both nobody nothing_left w → Both nobody nothing_left (for_each test c w)
+  for_each_both : (test : Conn → Bool) (c : ℕ → Conn → Change whole whole_ways) → SafeBothAt c → (w : Network) → Both nobody nothing_left w → Both nobody nothing_left (for_each test c w)
   for_each_both test c a w h = places_both 0 (length w.connections) (by_connection (where_it test c)) (λ i. at_place_both (where_it test c) (where_both test c a) i) w h
 
-  stops_both : (l : Live whole) → Safe' (stops_one l)
+  stops_both : (l : Live whole) → SafeBoth (stops_one l)
   stops_both l w live h =
       let v : Network = comes_out (outcomes.Line l.node.moment (lines.Stopped l.node.me)) w in
       let b : Both nobody nothing_left v = quiet_both nobody nothing_left nothing_left w v (stopped_quiet l w) (outcome_holds (outcomes.Line l.node.moment (lines.Stopped l.node.me)) (refl, refl, refl) w h.holds) h in
@@ -232,7 +229,7 @@ module _ (nobody : UniqueAddress) where
 
   -- ---- dials
 
-  connects_both : (p : Pending) (w : Network) (l : Live whole) (t : Live whole → Bool) → Rattle.std.specs.List.find t w.live ≡ Some l → w.ended ≡ None → Offered p w → Both nobody nothing_left w → Both nobody nothing_left (connects p.dialer p.dial l.node.me.uid (l.accepted + 1) w)
+  connects_both : (p : Pending) (w : Network) (l : Live whole) (t : Live whole → Bool) → find t w.live ≡ Some l → w.ended ≡ None → Offered p w → Both nobody nothing_left w → Both nobody nothing_left (connects p.dialer p.dial l.node.me.uid (l.accepted + 1) w)
   connects_both p w l t found live o h =
       let w1 : Network = joins p.dialer p.dial l.node.me.uid (l.accepted + 1) w in
       let j : Joined p l.node.me.uid (l.accepted + 1) w1 = joined p w l t found live o h.holds in
@@ -246,7 +243,7 @@ module _ (nobody : UniqueAddress) where
           (λ q i e. silent_grow none_of_them p.dialer p.dial w1.connections w2.connections (λ n. n) (accepted_later l.node.me.uid (l.accepted + 1) w1) (j.silent live)) (λ e. b2.holds) (λ f k. refl) tt b2)
       (λ s. b2)
 
-  failed_both : (p : Pending) → Safe' (gives p.dialer (inputs.DialFailed p.dial))
+  failed_both : (p : Pending) → SafeBoth (gives p.dialer (inputs.DialFailed p.dial))
   failed_both p w live h = gives_both nobody p.dialer (inputs.DialFailed p.dial) nothing_left nothing_left w live (λ q e. tt) (λ e. h.holds) (λ f j. refl) tt h
 
   settles_both : (p : Pending) (w : Network) → w.ended ≡ None → Removed p w → Both nobody nothing_left w → Both nobody nothing_left (settles p w)
@@ -262,7 +259,7 @@ module _ (nobody : UniqueAddress) where
   pending_both : (w : Network) (ps : List Pending) → Holds (record w { pending = ps }) → Both nobody nothing_left w → Both nobody nothing_left (record w { pending = ps })
   pending_both w ps r h = record { holds = r; names = λ all. (let n : Names nobody w = h.names all in record { lawful = n.lawful; out = n.out; lives = n.lives; silent = n.silent; named = n.named }) }
 
-  by_pending_both : (u d : ℕ) (c : Pending → Change whole whole_ways) → ((p : Pending) (w : Network) → w.ended ≡ None → Removed p w → Both nobody nothing_left w → Both nobody nothing_left (c p w)) → Safe' (by_pending u d c)
+  by_pending_both : (u d : ℕ) (c : Pending → Change whole whole_ways) → ((p : Pending) (w : Network) → w.ended ≡ None → Removed p w → Both nobody nothing_left w → Both nobody nothing_left (c p w)) → SafeBoth (by_pending u d c)
   by_pending_both u d c a w live h = by (position (is_pending u d) w.pending)
     where
       at_place : (i : ℕ) (x : Option Pending) → slice_get w.pending i ≡ x → Both nobody nothing_left (by_found (λ p. no_longer i ⟫ c p) x w)
@@ -276,7 +273,7 @@ module _ (nobody : UniqueAddress) where
   fails_both : (p : Pending) (w : Network) → w.ended ≡ None → Removed p w → Both nobody nothing_left w → Both nobody nothing_left (fails p w)
   fails_both p w live r h = failed_both p w live h
 
-  next_both : Safe' settles_next
+  next_both : SafeBoth settles_next
   next_both w live h = by w.pending refl
     where
       by : (ps : List Pending) → w.pending ≡ ps → Both nobody nothing_left (settles_first ps w)
@@ -287,10 +284,10 @@ module _ (nobody : UniqueAddress) where
           let same_one : no_longer 0 w ≡ record w { pending = rest } = ap (λ ps. record w { pending = remove ps 0 }) e in
           subst (λ (v : Network). Both nobody nothing_left (settles p v)) same_one (settles_both p (no_longer 0 w) live r (pending_both w (remove w.pending 0) r.holds h))
 
-  all_both : SafeAt' carries_all
+  all_both : SafeBothAt carries_all
   all_both i c w e live h = carries_both (load c) i c w e live h
 
-  passes_both : Safe' passes_once
+  passes_both : SafeBoth passes_once
   passes_both w live h = going_both (for_each is_loaded carries_all) (λ v l k. for_each_both is_loaded carries_all all_both v k) (times (length w.pending) settles_next w) (times_both (length w.pending) settles_next next_both w h)
 
   -- ---- events

@@ -1,10 +1,10 @@
 -- Rules that keep the facts where something is true outside.
-use Rattle.std.proofs.Common.{◌≡◌, ℕ, Bool, true, false, cond, List, [], ◌∷◌}
+use Rattle.std.proofs.Common.{ℕ, Bool, true, false, cond}
 use Rattle.artery_base.specs.declared.address.Address.{Address}
 use Rattle.artery_base.specs.declared.address.UniqueAddress.{UniqueAddress}
 use Rattle.artery_machine.specs.Parts.{whole}
 use Rattle.artery_machine.specs.Node.{Node}
-use Rattle.artery_machine.specs.Doing.{Rule, ◌▸◌, stays, where_true}
+use Rattle.artery_machine.specs.Doing.{Rule, ◌▸◌, stays}
 use Rattle.artery_names.proofs.Facts.{Network, Good}
 use Rattle.artery_names.proofs.Outside.{outward}
 use Rattle.artery_names.proofs.Rules.{Work}

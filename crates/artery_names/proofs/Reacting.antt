@@ -1,7 +1,6 @@
 -- What comes to a node: the facts stay true, and it is known how much was given on each inbound connection.
-use Rattle.std.proofs.Common.{◌≡◌, ℕ, zero, suc, ◌+◌, ◌≤◌, Bool, true, false, cond, List, [], ◌∷◌, ◌++◌, length, drop, refl, sym, ◌∙◌, ap, subst, arith, length-append}
+use Rattle.std.proofs.Common.{◌≡◌, ℕ, zero, suc, ◌+◌, Bool, true, false, cond, List, [], ◌++◌, length, refl, sym, ◌∙◌, ap, arith, length-append}
 use Rattle.std.specs.Prelude.{Option, None, Some, ◌==◌, nat_lt, is_some}
-use Rattle.std.specs.List.{find}
 use Rattle.std.proofs.lemmas.Bool.Decides.{nat_tests}
 use Rattle.artery_base.specs.declared.address.Address.{Address}
 use Rattle.artery_base.specs.declared.address.UniqueAddress.{UniqueAddress}
@@ -17,31 +16,27 @@ use Rattle.artery_machine.specs.declared.input.Input.{Input}
 use Rattle.artery_machine.specs.declared.input.Input.TheVariants as inputs
 use Rattle.artery_machine.specs.Deeds.{Hangs}
 use Rattle.artery_machine.specs.Parts.{whole, came_whole}
-use Rattle.artery_machine.specs.Node.{Node, Inbound, is_number, inbound_at, accepted_as, peer_at, current_of}
-use Rattle.artery_machine.specs.Doing.{Rule, ◌▸◌, stays, becomes, does, tells_of, inbound_becomes, each}
-use Rattle.artery_machine.specs.Making.{at_request}
-use Rattle.artery_machine.specs.Closing.{closes_current}
+use Rattle.artery_machine.specs.Node.{Node, Inbound, inbound_at}
+use Rattle.artery_machine.specs.Doing.{◌▸◌, stays, becomes, does, tells_of, inbound_becomes, each}
 use Rattle.artery_machine.specs.Sending.{sends, tells_message}
 use Rattle.artery_machine.specs.Hearing.{hears}
 use Rattle.artery_machine.specs.Reacting.{most_inbound, with_inbound, with_bytes, accepts, ends_broken, comes_on, comes, quarantined, asked_for, reacts}
 use Rattle.artery_flight.proofs.Rules.{bytes_in, bytes_at}
-use Rattle.artery_flight.proofs.Inward.{FromPiece, BytesFrom}
-use Rattle.artery_names.proofs.Lists.{by_test, eq_true, eq_self, some_same, not_some, Each}
+use Rattle.artery_flight.proofs.Inward.{BytesFrom}
+use Rattle.artery_names.proofs.Lists.{eq_self, some_same, not_some}
 use Rattle.artery_names.proofs.Facts.{Network, Conn, journal, Good}
-use Rattle.artery_names.proofs.Outside.{outward}
 use Rattle.artery_names.proofs.Rules.{Work}
 use Rattle.artery_names.proofs.Later.{Later, later_self, later_trans}
-use Rattle.artery_names.proofs.Keeping.{nowhere, Kept, kept_self, plain_keeps, Keeps, ◌▻◌, stays_keep}
+use Rattle.artery_names.proofs.Keeping.{nowhere, Kept, plain_keeps, Keeps, ◌▻◌, stays_keep}
 use Rattle.artery_names.proofs.Making.{at_request_keeps}
 use Rattle.artery_names.proofs.Closing.{closes_current_kept}
 use Rattle.artery_names.proofs.Sending.{refused_plain, sends_keeps, watches_keep, unwatches_keep, spawns_keep, kills_keep}
 use Rattle.artery_names.proofs.Talking.{tells_message_keeps}
 use Rattle.artery_names.proofs.Asking.{dialed_keeps, lost_keeps}
-use Rattle.artery_names.proofs.Premises.{kept_then}
 use Rattle.artery_names.proofs.Frames.{then_given}
 use Rattle.artery_names.proofs.Shown.{then_here}
 use Rattle.artery_names.proofs.Hearing.{Before, Behind, AtFirst}
-use Rattle.artery_names.proofs.Giving.{AllFrames, last, last_is, then_away, Given, all_heard, without_keeps, hangs_keeps, broken_keeps, bytes_keep, Put, New, Old, put_found, Comes', with_good}
+use Rattle.artery_names.proofs.Giving.{AllFrames, last, last_is, then_away, Given, all_heard, without_keeps, hangs_keeps, broken_keeps, bytes_keep, Put, New, Old, put_found, MadeJustNow, with_good}
 use Rattle.artery_names.proofs.Ticking.{Carrying, ticks_kept}
 
 -- ---- how much was given
@@ -86,7 +81,7 @@ pub record Arrives (u k : ℕ) (piece bytes : List ℕ) (cs : List Conn) : Type 
 
 abbrev pub Ready : UniqueAddress → ℕ → (ℕ → ℕ) → Input → Node whole → Node whole → Network → Type 0
 Ready nobody u given (inputs.Request request) n after w = Unit {0}
-Ready nobody u given (inputs.Accepted k) n after w = Comes' nobody u k w.connections (journal w)
+Ready nobody u given (inputs.Accepted k) n after w = MadeJustNow nobody u k w.connections (journal w)
 Ready nobody u given (inputs.Dialed dial) n after w = Unit {0}
 Ready nobody u given (inputs.DialFailed dial) n after w = Unit {0}
 Ready nobody u given (inputs.Bytes k piece) n after w = (bytes : List ℕ) → bytes_at k n ≡ Some bytes → Arrives u k piece bytes w.connections
@@ -122,7 +117,7 @@ module _ {nobody : UniqueAddress} {u m : ℕ} {given : ℕ → ℕ} where
   as_before : (d e : Work u m) → Kept nobody u given nowhere d.deeds e.node e.deeds → Counts given d.node → ((j : ℕ) (bytes : List ℕ) → bytes_at j e.node ≡ Some bytes → bytes_at j d.node ≡ Some bytes) → Reacts nobody u d.deeds e.node e.deeds
   as_before d e k c f = record { given = given; kept = k; counts = λ j bytes b. c j bytes (f j bytes b) }
 
-  accepts_kept : (k : ℕ) (d : Work u m) → Counts given d.node → (d.deeds.ended ≡ None → Comes' nobody u k d.deeds.connections (journal d.deeds)) → Good nobody u given nowhere d.node d.deeds → Reacts nobody u d.deeds (accepts k d).node (accepts k d).deeds
+  accepts_kept : (k : ℕ) (d : Work u m) → Counts given d.node → (d.deeds.ended ≡ None → MadeJustNow nobody u k d.deeds.connections (journal d.deeds)) → Good nobody u given nowhere d.node d.deeds → Reacts nobody u d.deeds (accepts k d).node (accepts k d).deeds
   accepts_kept k d c f g = by (nat_lt (length d.node.inbound) most_inbound)
     where
       counted : (j : ℕ) (bytes : List ℕ) (x : Option (Inbound whole)) → inbound_at j (with_inbound k d.node) ≡ x → bytes_in x ≡ Some bytes → then_given given k 0 j ≡ had_by (frames_in bytes)

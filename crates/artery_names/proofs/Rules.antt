@@ -1,25 +1,24 @@
 -- Rules of a node whose deeds are done outside at once, and that say nothing of ordinary messages and tables.
-use Rattle.std.proofs.Common.{◌≡◌, ℕ, zero, suc, Bool, true, false, cond, List, [], ◌∷◌, ◌++◌, refl, sym, ◌∙◌, ap, subst, rules}
-use Rattle.std.specs.Prelude.{Option, None, Some, ◌==◌, ◌||◌, not}
-use Rattle.std.specs.List.{find, filter, list_any}
-use Rattle.std.specs.Cmp.Rules.{comparing}
+use Rattle.std.proofs.Common.{◌≡◌, ℕ, zero, suc, Bool, true, false, cond, List, [], ◌∷◌, refl, sym, ◌∙◌, ap, subst}
+use Rattle.std.specs.Prelude.{Option, None, Some, ◌==◌}
+use Rattle.std.specs.List.{find}
 use Rattle.artery_base.specs.declared.address.Address.{Address}
 use Rattle.artery_base.specs.declared.address.UniqueAddress.{UniqueAddress}
-use Rattle.artery_assoc.specs.Peer.{PeerState, new_peer as no_incarnation}
+use Rattle.artery_assoc.specs.Peer.{PeerState}
 use Rattle.artery_journal.specs.declared.line.Line.{Line}
 use Rattle.artery_journal.specs.declared.words.Kind.{Kind}
 use Rattle.artery_tables.specs.Story.{Story}
 use Rattle.artery_machine.specs.declared.input.Conn.TheVariants.{Outward}
-use Rattle.artery_machine.specs.Deeds.{Writing, Deed, Dials, Writes, Hangs, Tells}
+use Rattle.artery_machine.specs.Deeds.{Writing, Deed, Writes, Hangs, Tells}
 use Rattle.artery_machine.specs.Lists.{or_else, change_first}
 use Rattle.artery_machine.specs.Parts.{whole}
-use Rattle.artery_machine.specs.Node.{Node, Peer, Inbound, Origin, OfKinds, of_kind, of_each, same_address, same_unique, new_peer, new_origin, is_peer, peer_at, is_number, inbound_at, is_origin, origin_at, has_peer}
-use Rattle.artery_machine.specs.Doing.{Doing, Rule, ◌▸◌, stays, where_true, does, becomes, tells, tells_of, writes_on, hangs_up, peer_becomes, inbound_becomes, origin_becomes, each, times}
-use Rattle.artery_names.proofs.Lists.{by_test, on_cond, not_both, some_same, not_some}
+use Rattle.artery_machine.specs.Node.{Node, Peer, Inbound, Origin, OfKinds, of_kind, same_address, same_unique, new_peer, new_origin, is_peer, peer_at, is_number, inbound_at, is_origin}
+use Rattle.artery_machine.specs.Doing.{Doing, Rule, ◌▸◌, stays, where_true, does, becomes, tells_of, writes_on, hangs_up, peer_becomes, inbound_becomes, origin_becomes, each, times}
+use Rattle.artery_names.proofs.Lists.{some_same, not_some}
 use Rattle.artery_names.proofs.Talks.{IsSilent}
 use Rattle.artery_names.proofs.Facts.{Network, bound_in, story_of, numbers_in}
-use Rattle.artery_names.proofs.Plain.{Less, Gone, Same, StillHeard, WasHeard, SameNode, same_node, Plainly, plainly_self, plainly_then}
-use Rattle.artery_names.proofs.Outside.{outward, Quietly, IsPlain, IsPlainDeed, told_quietly}
+use Rattle.artery_names.proofs.Plain.{Less, Same, StillHeard, WasHeard, SameNode, same_node, Plainly, plainly_self, plainly_then}
+use Rattle.artery_names.proofs.Outside.{outward, IsPlain, IsPlainDeed, told_quietly}
 
 abbrev pub Work : ℕ → ℕ → Type 0
 Work u m = Doing whole (outward u m)

@@ -1,5 +1,5 @@
 -- System messages, watches and actors keep the facts.
-use Rattle.std.proofs.Common.{◌≡◌, ℕ, Bool, true, false, cond, List, [], length, refl}
+use Rattle.std.proofs.Common.{◌≡◌, ℕ, true, List, [], length, refl}
 use Rattle.std.specs.Prelude.{nat_lt, not, Option, Some, None}
 use Rattle.artery_base.specs.declared.address.Address.{Address}
 use Rattle.artery_base.specs.declared.address.UniqueAddress.{UniqueAddress}
@@ -30,17 +30,16 @@ use Rattle.artery_watch.specs.Watcher.{Kept as Watching, watching, unwatching, s
 use Rattle.artery_text.specs.Spelling.{address_text}
 use Rattle.artery_machine.specs.Lists.{or_else}
 use Rattle.artery_machine.specs.Parts.{whole}
-use Rattle.artery_machine.specs.Node.{Peer, peer_at, current_of}
-use Rattle.artery_machine.specs.Doing.{Rule, ◌▸◌, stays, where_true, tells_of, peer_becomes, each}
+use Rattle.artery_machine.specs.Node.{peer_at, current_of}
+use Rattle.artery_machine.specs.Doing.{Rule, stays, tells_of, peer_becomes, each}
 use Rattle.artery_machine.specs.Making.{uses}
-use Rattle.artery_machine.specs.Closing.{without_detector, closes_current}
+use Rattle.artery_machine.specs.Closing.{without_detector}
 use Rattle.artery_machine.specs.Sending.{with_out, begins_waiting, with_held, sent_as, sends_now, sends, holds, most_held}
 use Rattle.artery_machine.specs.Watching.{reference, Told, Begins, Ends, HasEnded, Nothing, told_of, watches_at, would_overflow, notice, watch_kind, unwatch_kind, ended_kind, address_in, watches_become, after_last_watch, begins_watch, watches_as, watches_pair, ends_watch, unwatches_as, unwatches_pair, at_reference, watches, unwatches, spawns_as, spawns, sends_to_reference, tells_ended, kills_as, kills, is_watched_as, is_watched, is_unwatched, at_own, terminates_as, terminates, acts_as, acts}
-use Rattle.artery_names.proofs.Facts.{Good}
 use Rattle.artery_names.proofs.Plain.{Same}
 use Rattle.artery_names.proofs.Outside.{outward}
-use Rattle.artery_names.proofs.Rules.{Work, Plain, ◌▹◌, kept_plain, stays_plain, tells_plain, if_plain, where_plain}
-use Rattle.artery_names.proofs.Keeping.{nowhere, Kept, Keeps, ◌▻◌, plain_keeps, stays_keep, if_keeps, where_keeps, each_keeps}
+use Rattle.artery_names.proofs.Rules.{Plain, tells_plain, if_plain, where_plain}
+use Rattle.artery_names.proofs.Keeping.{Keeps, ◌▻◌, plain_keeps, stays_keep, if_keeps, where_keeps, each_keeps}
 use Rattle.artery_names.proofs.Silence.{is_silent, silent}
 use Rattle.artery_names.proofs.Making.{other_plain, uses_plain, out_plain, waiting_plain, pumps_plain, tells_sent_plain, at_request_keeps}
 use Rattle.artery_names.proofs.Closing.{watching_plain, without_detector_plain, closes_current_kept}

@@ -1,5 +1,5 @@
 -- A table is announced to an origin that is settled: what is in flight still fits its story.
-use Rattle.std.proofs.Common.{◌≡◌, ℕ, zero, suc, ◌+◌, ◌-◌, ◌≤◌, ◌<◌, Bool, true, false, ◌&&◌, cond, List, [], ◌∷◌, ◌++◌, length, drop, refl, sym, ◌∙◌, ap, subst, arith, length-append, append-nil}
+use Rattle.std.proofs.Common.{◌≡◌, ℕ, zero, suc, ◌+◌, ◌-◌, ◌≤◌, ◌<◌, Bool, true, false, ◌&&◌, cond, List, [], ◌∷◌, ◌++◌, length, drop, refl, sym, ◌∙◌, ap, subst, arith, length-append}
 use Rattle.std.specs.Prelude.{Option, None, Some, ◌==◌, nat_lt, nat_le, not}
 use Rattle.std.specs.List.{find, list_all}
 use Rattle.std.proofs.lemmas.Bool.Decides.{nat_tests}
@@ -10,22 +10,21 @@ use Rattle.artery_handshake.specs.declared.in_conn.InState.{InState}
 use Rattle.artery_handshake.specs.declared.in_conn.InState.TheVariants.{Raw, Known}
 use Rattle.artery_journal.specs.declared.line.Line.{Line}
 use Rattle.artery_journal.specs.declared.words.Kind.{Kind}
-use Rattle.artery_tables.specs.declared.in_tables.Advertised.{Advertised}
 use Rattle.artery_tables.specs.declared.in_tables.Advertised.TheVariants.{New, Again, Same as IsSame, Spent, Unsettled}
-use Rattle.artery_tables.specs.Story.{Story, IsStory, names_in, numbered}
+use Rattle.artery_tables.specs.Story.{Story, names_in, numbered}
 use Rattle.artery_tables.specs.TopTable.{top_table}
-use Rattle.artery_tables.specs.InTables.{State as Announcing, is_nothing_new, answer_to_advertise, story_after, advertised}
+use Rattle.artery_tables.specs.InTables.{State as Announcing, is_nothing_new, story_after, advertised}
 use Rattle.artery_machine.specs.Lists.{or_else, change_first}
 use Rattle.artery_machine.specs.Parts.{whole}
-use Rattle.artery_machine.specs.Node.{Node, Inbound, Origin, OfKinds, of_kind, same_unique, new_origin, is_origin, origin_at, is_number, inbound_at, speaker_in}
+use Rattle.artery_machine.specs.Node.{Node, Inbound, Origin, OfKinds, of_kind, new_origin, is_origin, origin_at, is_number, inbound_at, speaker_in}
 use Rattle.artery_machine.specs.Ticking.{shows, is_by, is_ordinary, shows_if_by, is_settled, with_advertised}
 use Rattle.artery_names.specs.Versions.{Fits}
-use Rattle.artery_names.proofs.Lists.{by_test, on_cond, not_both, not_some, some_same, and_left, and_right, Each, each_weaker, prefix_self}
+use Rattle.artery_names.proofs.Lists.{by_test, not_both, not_some, some_same, and_left, and_right, Each, each_weaker, prefix_self}
 use Rattle.artery_names.proofs.Said.{carried}
 use Rattle.artery_names.proofs.Talks.{Told, adopted_by, told_by, name_by}
-use Rattle.artery_names.proofs.Facts.{Network, Conn, journal, StoryFacts, story_of, stories_of, IsShown, IsState, IsKnown, sent_in, InFacts, Heard, NodeFacts, Good}
+use Rattle.artery_names.proofs.Facts.{Network, Conn, journal, StoryFacts, story_of, stories_of, IsShown, IsState, IsKnown, sent_in, Heard, NodeFacts, Good}
 use Rattle.artery_names.proofs.Keeping.{nowhere}
-use Rattle.artery_names.proofs.Peers.{unique_is, unique_self}
+use Rattle.artery_names.proofs.Peers.{unique_self}
 use Rattle.artery_names.proofs.Origins.{on_origin, kind_changed, Restory, restory_good}
 
 -- ---- a story
@@ -92,7 +91,7 @@ low_fits l kind (t ∷ ts) h = (λ p. omega arith, low_fits l kind ts h)
 
 -- the story of one origin for one kind has advanced, and no other
 data Announces (v : UniqueAddress) (kind : Kind) (settled : Bool) (x : UniqueAddress) (other : Kind) (s t : Story) : Type 0 where
-  Same' : t ≡ s → Announces v kind settled x other s t
+  Unmoved : t ≡ s → Announces v kind settled x other s t
   Ahead : x ≡ v → kind ≡ other → Advances settled s t → Announces v kind settled x other s t
 
 module _ (nobody : UniqueAddress) (u : ℕ) (given : ℕ → ℕ) (v : UniqueAddress) (kind : Kind) (n : Node whole) (w : Network) where
@@ -109,10 +108,10 @@ module _ (nobody : UniqueAddress) (u : ℕ) (given : ℕ → ℕ) (v : UniqueAdd
   each_story x other = on_origin v x n.moment (with_advertised kind settled) (λ o. refl) (λ (o : Origin whole). Announces v kind settled x other (story_of other x n) (of_kind other o.tables).story) n.origins
       (λ s o f. (let is : origin_at x n ≡ o = ap (λ (y : UniqueAddress). or_else (new_origin {P = whole} n.moment x) (find (is_origin y) n.origins)) s ∙ ap (or_else (new_origin {P = whole} n.moment x)) f in
           subst (λ (y : Origin whole). Announces v kind settled x other (of_kind other y.tables).story (of_kind other (with_advertised kind settled o).tables).story) (sym is)
-          (kind_changed (λ (y : Announcing). Announces v kind settled x other (of_kind other o.tables).story y.story) kind other (advertised settled) o.tables (λ q. Ahead s q (advance_is settled (of_kind other o.tables))) (Same' refl))))
+          (kind_changed (λ (y : Announcing). Announces v kind settled x other (of_kind other o.tables).story y.story) kind other (advertised settled) o.tables (λ q. Ahead s q (advance_is settled (of_kind other o.tables))) (Unmoved refl))))
       (λ s f. (let is : origin_at x n ≡ new_origin {P = whole} n.moment x = ap (λ (y : UniqueAddress). or_else (new_origin {P = whole} n.moment x) (find (is_origin y) n.origins)) s ∙ ap (or_else (new_origin {P = whole} n.moment x)) f in
-          subst (λ (y : Origin whole). Announces v kind settled x other (of_kind other y.tables).story (of_kind other (new_origin {P = whole} n.moment x).tables).story) (sym is) (Same' refl)))
-      (λ s. Same' refl)
+          subst (λ (y : Origin whole). Announces v kind settled x other (of_kind other y.tables).story (of_kind other (new_origin {P = whole} n.moment x).tables).story) (sym is) (Unmoved refl)))
+      (λ s. Unmoved refl)
 
   advanced_facts : (adopted : ℕ) (s t : Story) → Advances settled s t → StoryFacts s adopted → StoryFacts t adopted
   advanced_facts adopted s t (Still e) f = subst (λ (y : Story). StoryFacts y adopted) (sym e) f
@@ -154,18 +153,18 @@ module _ (nobody : UniqueAddress) (u : ℕ) (given : ℕ → ℕ) (v : UniqueAdd
     }
       where
         by_facts : (x : UniqueAddress) (other : Kind) → Announces v kind settled x other (story_of other x n) (story_of other x after) → StoryFacts (story_of other x n) (of_kind other (adopted_by x n.me ls)) → StoryFacts (story_of other x after) (of_kind other (adopted_by x n.me ls))
-        by_facts x other (Same' e) f = subst (λ (y : Story). StoryFacts y (of_kind other (adopted_by x n.me ls))) (sym e) f
+        by_facts x other (Unmoved e) f = subst (λ (y : Story). StoryFacts y (of_kind other (adopted_by x n.me ls))) (sym e) f
         by_facts x other (Ahead p q a) f = advanced_facts (of_kind other (adopted_by x n.me ls)) (story_of other x n) (story_of other x after) a f
 
         by_more : (x : UniqueAddress) (other : Kind) → Announces v kind settled x other (story_of other x n) (story_of other x after) → IsPrefix (story_of other x n).tables (story_of other x after).tables
-        by_more x other (Same' e) = subst (λ (y : Story). IsPrefix (story_of other x n).tables y.tables) (sym e) (prefix_self (story_of other x n).tables)
+        by_more x other (Unmoved e) = subst (λ (y : Story). IsPrefix (story_of other x n).tables y.tables) (sym e) (prefix_self (story_of other x n).tables)
         by_more x other (Ahead p q a) = advanced_more (story_of other x n) (story_of other x after) a
 
         by_fits : (k : ℕ) (i : Inbound whole) → inbound_at k n ≡ Some i → (y : Heard nobody n.me (given k) (stories_of n) cs ls k i) → (carried y.conn.way.all ≡ Some streams.Control → ⊥) → (other : Kind)
             → Announces v kind settled (name_by nobody y.conn.dialer ls) other (story_of other (name_by nobody y.conn.dialer ls) n) (story_of other (name_by nobody y.conn.dialer ls) after)
             → Each (λ (t : Told). Fits (length (story_of other (name_by nobody y.conn.dialer ls) n).tables) (of_kind other t.numbers)) (drop (sent_in (given k) y.conn) (told_by (name_by nobody y.conn.dialer ls) n.me y.conn.dial ls))
             → Each (λ (t : Told). Fits (length (story_of other (name_by nobody y.conn.dialer ls) after).tables) (of_kind other t.numbers)) (drop (sent_in (given k) y.conn) (told_by (name_by nobody y.conn.dialer ls) n.me y.conn.dial ls))
-        by_fits k i at y ord other (Same' e) f = subst (λ (z : Story). Each (λ (t : Told). Fits (length z.tables) (of_kind other t.numbers)) (drop (sent_in (given k) y.conn) (told_by (name_by nobody y.conn.dialer ls) n.me y.conn.dial ls))) (sym e) f
+        by_fits k i at y ord other (Unmoved e) f = subst (λ (z : Story). Each (λ (t : Told). Fits (length z.tables) (of_kind other t.numbers)) (drop (sent_in (given k) y.conn) (told_by (name_by nobody y.conn.dialer ls) n.me y.conn.dial ls))) (sym e) f
         by_fits k i at y ord other (Ahead p q (Still e)) f = subst (λ (z : Story). Each (λ (t : Told). Fits (length z.tables) (of_kind other t.numbers)) (drop (sent_in (given k) y.conn) (told_by (name_by nobody y.conn.dialer ls) n.me y.conn.dial ls))) (sym e) f
         by_fits k i at y ord other (Ahead p q (Longer top e le ready)) f =
             let a : UniqueAddress = name_by nobody y.conn.dialer ls in

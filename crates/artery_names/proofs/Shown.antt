@@ -1,12 +1,11 @@
 -- An ordinary message is got: it is told, the tables by which it was written are shown, and its names are counted.
-use Rattle.std.proofs.Common.{◌≡◌, ℕ, ◌+◌, ◌≤◌, Bool, true, false, ◌&&◌, cond, List, [], ◌∷◌, ◌++◌, length, take, drop, refl, sym, ◌∙◌, ap, subst, arith}
-use Rattle.std.specs.Prelude.{Option, None, Some, ◌==◌, slice_get}
+use Rattle.std.proofs.Common.{◌≡◌, ℕ, ◌+◌, ◌≤◌, Bool, true, cond, List, [], ◌∷◌, ◌++◌, length, take, drop, refl, sym, ◌∙◌, ap, subst}
+use Rattle.std.specs.Prelude.{Option, None, Some}
 use Rattle.std.specs.Option.{option_or}
 use Rattle.artery_base.specs.declared.address.UniqueAddress.{UniqueAddress}
 use Rattle.artery_base.specs.declared.message.Tell.{Tell}
 use Rattle.artery_codec.specs.Meaning.{Meaning}
 use Rattle.artery_frame.specs.declared.stream.Stream.{Stream}
-use Rattle.artery_handshake.specs.declared.in_conn.InState.{InState}
 use Rattle.artery_handshake.specs.declared.in_conn.InState.TheVariants.{Known}
 use Rattle.artery_header.specs.Envelope.{NameOf, Literal, Index, EnvelopeOf}
 use Rattle.artery_journal.specs.declared.line.Line.{Line}
@@ -16,20 +15,19 @@ use Rattle.artery_journal.specs.declared.words.Kind.TheVariants.{Refs, Manifests
 use Rattle.artery_tables.specs.Story.{version_of, number_of}
 use Rattle.artery_machine.specs.Lists.{change_first}
 use Rattle.artery_machine.specs.Parts.{whole}
-use Rattle.artery_machine.specs.Ways.{Wrote}
-use Rattle.artery_machine.specs.Connections.{is_dialed, is_inward}
+use Rattle.artery_machine.specs.Connections.{is_inward}
 use Rattle.artery_machine.specs.Node.{Node, Inbound, Origin, OfKinds, of_kind, is_number, origin_at, inbound_at, nonce_in}
-use Rattle.artery_machine.specs.Doing.{Rule, ◌▸◌, tells_of, inbound_becomes, origin_becomes}
+use Rattle.artery_machine.specs.Doing.{◌▸◌, tells_of, inbound_becomes}
 use Rattle.artery_machine.specs.Making.{uses}
 use Rattle.artery_machine.specs.Hearing.{tell_of, with_shown, with_counted, counts_names, got}
-use Rattle.artery_names.proofs.Lists.{by_test, eq_true, eq_self, and_left, and_right, some_same, Each, each_weaker, each_get, Within, within_push}
+use Rattle.artery_names.proofs.Lists.{eq_self, Each, each_weaker, each_get, Within, within_push}
 use Rattle.artery_names.proofs.Talks.{Told, adopted_by, told_by, got_by, name_by, messages}
-use Rattle.artery_names.proofs.Facts.{Network, Conn, journal, AtMost, TalkFacts, Out, IsShown, IsState, InFacts, Heard, stories_of, story_of, sent_in, NodeFacts, Good}
+use Rattle.artery_names.proofs.Facts.{Network, Conn, journal, AtMost, TalkFacts, Out, IsShown, InFacts, Heard, stories_of, sent_in, NodeFacts, Good}
 use Rattle.artery_names.proofs.Growing.{sent_same, inward_same}
 use Rattle.artery_names.proofs.Plain.{Plainly}
 use Rattle.artery_names.proofs.Rules.{Work, Plain, ◌▹◌, SameOrigin, origin_plain}
 use Rattle.artery_names.proofs.Later.{Later, later_self, later_trans}
-use Rattle.artery_names.proofs.Keeping.{nowhere, Kept, kept_self, plain_later, plain_keeps}
+use Rattle.artery_names.proofs.Keeping.{nowhere, Kept, plain_keeps}
 use Rattle.artery_names.proofs.Making.{uses_plain}
 use Rattle.artery_names.proofs.Asking.{inbound_good}
 use Rattle.artery_names.proofs.Premises.{kept_then}
@@ -162,19 +160,10 @@ module _ {nobody : UniqueAddress} {u m : ℕ} {given : ℕ → ℕ} where
       → (d.deeds.ended ≡ None → (c : Comes u k (given k) p stream frame d.deeds.connections) × IsOrdinary stream d.node i c.wrote.writing e s) → Good nobody u given nowhere d.node d.deeds
       → Kept nobody u (then_given given k (p + 1)) nowhere d.deeds ((uses v.address ▸ got i v e s) d).node ((uses v.address ▸ got i v e s) d).deeds
   got_keeps k p stream frame i v its_nonce e s d at number known c g =
-      kept_then nobody u given' nowhere d.deeds d1.deeds d4.deeds d1.node d4.node k1
-      (kept_then nobody u given' nowhere d1.deeds d2.deeds d4.deeds d2.node d4.node k2
-      (kept_then nobody u given' nowhere d2.deeds d3.deeds d4.deeds d3.node d4.node k3 ((plain_keeps (counts_names v e) (counts_plain v e)).on d3 k3.good)))
+      kept_then nobody u (then_given given k (p + 1)) nowhere d.deeds d1.deeds d4.deeds d1.node d4.node k1
+      (kept_then nobody u (then_given given k (p + 1)) nowhere d1.deeds d2.deeds d4.deeds d2.node d4.node k2
+      (kept_then nobody u (then_given given k (p + 1)) nowhere d2.deeds d3.deeds d4.deeds d3.node d4.node k3 ((plain_keeps (counts_names v e) (counts_plain v e)).on d3 k3.good)))
     where
-      given' : ℕ → ℕ
-      given' = then_given given k (p + 1)
-
-      nonce : Option ℕ
-      nonce = nonce_in i.state
-
-      message : Tell
-      message = tell_of s
-
       hears : d.deeds.ended ≡ None → Hears nobody u k (given k) p d.node v (nonce_in i.state) e s d.deeds.connections (journal d.deeds)
       hears live = (let x = c live in subst (λ (z : Option ℕ). Hears nobody u k (given k) p d.node v z e s d.deeds.connections (journal d.deeds)) (sym (ap nonce_in known))
           (hears_next nobody u given d.node d.deeds.connections (journal d.deeds) (g.out live) (g.node live) k p stream frame i v its_nonce e s at known x.0 x.1))

@@ -1,5 +1,5 @@
 -- Lines that say nothing of ordinary messages and tables, and messages that do not.
-use Rattle.std.proofs.Common.{◌≡◌, ℕ, Bool, true, false, refl}
+use Rattle.std.proofs.Common.{◌≡◌, Bool, true, false, refl}
 use Rattle.artery_control.specs.declared.control.Control.{Control}
 use Rattle.artery_control.specs.declared.control.Control.TheVariants as controls
 use Rattle.artery_journal.specs.declared.line.Line.{Line}

@@ -1,5 +1,5 @@
 -- An incarnation starts: the facts of the others stay true, and its own are true.
-use Rattle.std.proofs.Common.{◌≡◌, ℕ, ◌+◌, ◌≤◌, Bool, true, false, ◌&&◌, ◌||◌, cond, List, [], ◌∷◌, ◌++◌, length, refl, sym, ◌∙◌, ap, subst, arith}
+use Rattle.std.proofs.Common.{◌≡◌, ℕ, ◌≤◌, Bool, true, false, ◌||◌, cond, List, [], ◌∷◌, ◌++◌, length, refl, sym, ◌∙◌, ap, subst, arith}
 use Rattle.std.specs.Prelude.{Option, None, Some, ◌==◌, nat_lt, is_none, slice_get}
 use Rattle.std.specs.List.{list_any}
 use Rattle.artery_base.specs.declared.address.Address.{Address}
@@ -13,28 +13,24 @@ use Rattle.artery_machine.specs.declared.world.Outcome.TheVariants as outcomes
 use Rattle.artery_machine.specs.declared.world.WorldLimit.{WorldLimit}
 use Rattle.artery_machine.specs.declared.world.WorldLimit.TheVariants as limits
 use Rattle.artery_machine.specs.Parts.{whole}
-use Rattle.artery_machine.specs.Ways.{whole_ways}
 use Rattle.artery_machine.specs.Connections.{is_dialed}
-use Rattle.artery_machine.specs.Node.{Node, Peer, Inbound, of_kind, of_each, incarnation, new_node, new_peer, peer_at}
+use Rattle.artery_machine.specs.Node.{Node, Peer, Inbound, of_kind, of_each, incarnation, new_node, peer_at}
 use Rattle.artery_machine.specs.Reacting.{starts}
-use Rattle.artery_machine.specs.World.{Live, Change, ◌⟫◌, ends, each, does, comes_out, was_started, with_started, starts_with, most_nodes}
-use Rattle.artery_flight.proofs.Lists.{each_push, count, count_here}
+use Rattle.artery_machine.specs.World.{Live, ◌⟫◌, ends, each, does, comes_out, was_started, with_started, starts_with, most_nodes, has_uid}
+use Rattle.artery_flight.proofs.Lists.{each_push, count, count_here, each_of}
 use Rattle.artery_flight.proofs.Grow.{AllRead, is_far}
 use Rattle.artery_flight.proofs.Feeding.{nothing_left}
-use Rattle.artery_flight.proofs.Networks.{Unstarted, Going, Holds}
+use Rattle.artery_flight.proofs.Networks.{Unstarted, Holds}
 use Rattle.artery_flight.proofs.Starting.{any_push, starts_hold}
-use Rattle.artery_names.proofs.Lists.{by_test, none_is, on_cond, not_both, not_some, eq_true, eq_self, and_both, Each, each_weaker}
+use Rattle.artery_names.proofs.Lists.{by_test, not_both, not_some, eq_true, eq_self, and_both, Each, each_get}
 use Rattle.artery_names.proofs.Said.{Tabling}
-use Rattle.artery_names.proofs.Talks.{adopted_by, told_by, name_by, newest_line}
-use Rattle.artery_names.proofs.Facts.{Network, Conn, journal, tables_on, ConnFacts, IsLawful, Out, BoundTo, IsBound, bound_in, PeerFacts, StoryFacts, IsFramed, story_of, stories_of, InFacts, Heard, NodeFacts}
+use Rattle.artery_names.proofs.Talks.{adopted_by, name_by, newest_line}
+use Rattle.artery_names.proofs.Facts.{Network, Conn, journal, tables_on, ConnFacts, IsLawful, Out, IsBound, bound_in, PeerFacts, StoryFacts, IsFramed, story_of, stories_of, InFacts, Heard, NodeFacts}
 use Rattle.artery_names.proofs.Outside.{silent_lawful}
 use Rattle.artery_names.proofs.Keeping.{nowhere}
 use Rattle.artery_names.proofs.Worlds.{NodeNames, Names, Both}
 
 module _ (nobody v : UniqueAddress) (cs : List Conn) (ls : List Line) (apart : (i : ℕ) (c : Conn) → slice_get cs i ≡ Some c → (c.dialer ≡ v.uid → ⊥) × (c.far ≡ v.uid → ⊥)) where
-  abbrev ks : List Line
-  ks = lines.Started v ∷ ls
-
   name_other : (x : ℕ) → (x ≡ v.uid → ⊥) → name_by nobody x (lines.Started v ∷ ls) ≡ name_by nobody x ls
   name_other x n = by_test (v.uid == x) (λ t. absurd (n (sym (eq_true v.uid x t)))) (λ t. ap (λ (b : Bool). cond b v (name_by nobody x ls)) t)
 
@@ -121,8 +117,8 @@ started_names nobody v w new live h names = record {
   lawful = subst IsLawful (sym is) (silent_lawful (lines.Started v) (journal w) refl names.lawful);
   out = λ e. subst (Out nobody w.connections) (sym is) (out_started nobody v w.connections (journal w) apart (names.out live));
   lives = λ e. each_push (λ (l : Live whole). NodeNames nobody w.connections (journal w2) l.node) w.live (record { node = new_node v; accepted = 0 })
-      (Rattle.artery_flight.proofs.Lists.each_of (λ (l : Live whole). NodeNames nobody w.connections (journal w2) l.node) w.live (λ i l q.
-          (let k : NodeNames nobody w.connections (journal w) l.node = Rattle.artery_names.proofs.Lists.each_get (λ (x : Live whole). NodeNames nobody w.connections (journal w) x.node) w.live i l (names.lives live) q in
+      (each_of (λ (l : Live whole). NodeNames nobody w.connections (journal w2) l.node) w.live (λ i l q.
+          (let k : NodeNames nobody w.connections (journal w) l.node = each_get (λ (x : Live whole). NodeNames nobody w.connections (journal w) x.node) w.live i l (names.lives live) q in
           record {
             given = k.given;
             facts = subst (NodeFacts nobody l.node.me.uid k.given nowhere l.node w.connections) (sym is) (node_started nobody v w.connections (journal w) apart l.node.me.uid k.given l.node (unlike i l q) k.facts);
@@ -158,8 +154,8 @@ started_names nobody v w new live h names = record {
 
     unlike : (i : ℕ) (l : Live whole) → slice_get w.live i ≡ Some l → l.node.me.uid ≡ v.uid → ⊥
     unlike i l e q =
-        let a : 1 ≤ count (Rattle.artery_machine.specs.World.has_uid v.uid) w.live = count_here (Rattle.artery_machine.specs.World.has_uid v.uid) w.live i l e (ap (λ (x : ℕ). x == v.uid) q ∙ eq_self v.uid) in
-        let b : count (Rattle.artery_machine.specs.World.has_uid v.uid) w.live ≡ 0 = k.live in (let f : ⊥ = omega arith in f)
+        let a : 1 ≤ count (has_uid v.uid) w.live = count_here (has_uid v.uid) w.live i l e (ap (λ (x : ℕ). x == v.uid) q ∙ eq_self v.uid) in
+        let b : count (has_uid v.uid) w.live ≡ 0 = k.live in (let f : ⊥ = omega arith in f)
 
     before : (p : ℕ → Bool) (xs : List ℕ) (y : ℕ) → list_any p (xs ++ y ∷ []) ≡ true → p y ≡ false → list_any p xs ≡ true
     before p [] y t s = not_both t (ap (λ (z : Bool). z || false) s)

@@ -1,9 +1,8 @@
 -- The frames of what comes were written on its connection, at places one after the other.
-use Rattle.std.proofs.Common.{◌≡◌, ℕ, zero, suc, ◌+◌, ◌≤◌, Bool, true, false, ◌&&◌, List, [], ◌∷◌, ◌++◌, length, take, drop, map, refl, sym, ◌∙◌, ap, subst, arith, append_assoc}
-use Rattle.std.specs.Prelude.{Option, None, Some, ◌==◌, slice_get}
+use Rattle.std.proofs.Common.{◌≡◌, ℕ, zero, suc, ◌+◌, ◌≤◌, true, List, [], ◌∷◌, ◌++◌, length, take, drop, map, refl, sym, ◌∙◌, ap, subst, arith, append_assoc, cond}
+use Rattle.std.specs.Prelude.{Option, None, Some, slice_get, IfSome, is_some}
 use Rattle.std.specs.List.{flat_map, AllByRecursion}
 use Rattle.artery_base.specs.Words.{IsPrefix}
-use Rattle.artery_base.specs.declared.address.UniqueAddress.{UniqueAddress}
 use Rattle.artery_control.specs.declared.control.Control.{Control}
 use Rattle.artery_control.specs.declared.control.Control.TheVariants as controls
 use Rattle.artery_frame.specs.declared.stream.Stream.{Stream}
@@ -11,19 +10,19 @@ use Rattle.artery_frame.specs.declared.stream.Stream.TheVariants as streams
 use Rattle.artery_frame.specs.Stream.{written, IsShort, IsFrontReading, reading_of, new_frames}
 use Rattle.artery_frame.proofs.Pieces.{front_reading, no_frames}
 use Rattle.artery_machine.specs.Deeds.{Writing, Begins, Controls, Sends}
-use Rattle.artery_machine.specs.Parts.{whole, came_whole}
+use Rattle.artery_machine.specs.Parts.{whole}
 use Rattle.artery_machine.specs.Ways.{Wrote, bytes_on}
 use Rattle.artery_machine.specs.Connections.{is_dialed, is_inward}
 use Rattle.artery_machine.specs.Ticking.{is_ordinary}
 use Rattle.artery_flight.specs.Flight.{is_frame, frame_of, AreFramesBy, IsStreamBy, frames_by, AreBytesOf}
 use Rattle.artery_flight.specs.Answers.{IsReadBack}
-use Rattle.artery_flight.proofs.Grow.{AllRead, IsAnswerFor, TheOne, one_placed}
+use Rattle.artery_flight.proofs.Grow.{AllRead, IsAnswerFor, one_placed}
 use Rattle.artery_flight.proofs.Facts.{IsTrue, IsTrueControl}
 use Rattle.artery_flight.proofs.Streams.{bytes_are}
-use Rattle.artery_names.proofs.Lists.{Each, each_weaker, each_get, some_same, not_some, Or, First, Second}
+use Rattle.artery_names.proofs.Lists.{Each, each_weaker, each_get, not_some, Or, First, Second, not_both}
 use Rattle.artery_names.proofs.Said.{all_said, sends_said, carried, stream_said}
 use Rattle.artery_names.proofs.Facts.{Conn, sent_in}
-use Rattle.artery_names.proofs.Hearing.{IsMeant, IsToldBy, IsTold, Frame}
+use Rattle.artery_names.proofs.Hearing.{IsToldBy, IsTold}
 use Rattle.artery_names.proofs.Giving.{AllFrames}
 use Rattle.artery_names.proofs.Reacting.{frames_in, had_by, Arrives}
 
@@ -132,7 +131,7 @@ nothing_sent w stream e ws = ap (λ (x : Writing). length (sends_said x ++ [])) 
 
 -- frames that are read back are not too long
 short_one : (uid : ℕ) (x : Writing) → is_frame x ≡ true → IsReadBack uid x → IsShort (frame_of uid x)
-short_one uid (Begins stream) f r = Rattle.artery_names.proofs.Lists.not_both refl (sym f)
+short_one uid (Begins stream) f r = not_both refl (sym f)
 short_one uid (Controls control) f r = r.0
 short_one uid (Sends envelope) f r = r.0
 
@@ -188,7 +187,7 @@ module _ (u k : ℕ) (cs : List Conn) (place : ℕ) (c : Conn) (is : slice_get c
           at_stream : (x : Option Stream) → (reading_of (bytes ++ piece)).stream ≡ x → AllOf (new_frames bytes piece) (reading_of (bytes ++ piece)).stream
           at_stream None e = empty (reading_of (bytes ++ piece)).frames (reading_of (bytes ++ piece)).stream (no_frames (bytes ++ piece) e)
           at_stream (Some x) e =
-              let same : x ≡ f.0 = subst (λ (o : Option Stream). Rattle.std.specs.Prelude.IfSome o (λ y. y ≡ f.0)) e f.2.carried in
+              let same : x ≡ f.0 = subst (λ (o : Option Stream). IfSome o (λ y. y ≡ f.0)) e f.2.carried in
               let carries : (reading_of (bytes ++ piece)).stream ≡ carried c.way.all = e ∙ ap Some same ∙ sym (ap carried all ∙ ap stream_said f.1) in
               all_frames u k cs place c is inward (reading_of (bytes ++ piece)).stream carries
                   (ap (λ (xs : List Wrote). length (all_said sends_said (take 1 xs))) all ∙ nothing_sent w f.0 f.1 ws)
@@ -213,7 +212,7 @@ module _ (u k : ℕ) (cs : List Conn) (place : ℕ) (c : Conn) (is : slice_get c
   pub arrives_so : Arrives u k piece bytes cs
   arrives_so = record {
     sound = read_sound;
-    frames = subst (λ (bs : List ℕ). AllOf (new_frames bytes piece) (reading_of bs).stream) (sym (ap (λ x. Rattle.std.proofs.Common.cond (Rattle.std.specs.Prelude.is_some x) bytes (bytes ++ piece)) read_sound)) frames_come;
+    frames = subst (λ (bs : List ℕ). AllOf (new_frames bytes piece) (reading_of bs).stream) (sym (ap (λ x. cond (is_some x) bytes (bytes ++ piece)) read_sound)) frames_come;
   }
 
 -- what came on a connection says what it carries
@@ -237,4 +236,4 @@ carries_so c s r bytes p some = by c.way.all s r (subst (λ bs. IsPrefix bytes b
 
         at_stream : (x : Option Stream) → (reading_of bytes).stream ≡ x → Or (stream_said w.writing ≡ Some streams.Control) (is_ordinary (reading_of bytes).stream ≡ true)
         at_stream None e = absurd (not_none (no_frames bytes e))
-        at_stream (Some x) e = which x (subst (λ (o : Option Stream). Rattle.std.specs.Prelude.IfSome o (λ y. y ≡ f.0)) e f.2.carried) e
+        at_stream (Some x) e = which x (subst (λ (o : Option Stream). IfSome o (λ y. y ≡ f.0)) e f.2.carried) e

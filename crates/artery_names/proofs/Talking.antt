@@ -1,5 +1,5 @@
 -- The rules by which ordinary messages are told keep the facts.
-use Rattle.std.proofs.Common.{◌≡◌, ℕ, Bool, true, false, ◌&&◌, cond, List, [], ◌∷◌, ◌++◌, length, refl, sym, ◌∙◌, ap, subst, append-nil}
+use Rattle.std.proofs.Common.{◌≡◌, ℕ, Bool, true, false, cond, List, [], ◌∷◌, length, refl, sym, ◌∙◌, ap, subst}
 use Rattle.std.specs.Prelude.{Option, None, Some, ◌==◌, not, is_none, slice_get, slice_set}
 use Rattle.artery_base.specs.declared.address.Address.{Address}
 use Rattle.artery_base.specs.declared.address.UniqueAddress.{UniqueAddress}
@@ -19,21 +19,19 @@ use Rattle.artery_machine.specs.Deeds.{Writing, Sends, Writes, Tells, bytes_of}
 use Rattle.artery_machine.specs.Parts.{whole}
 use Rattle.artery_machine.specs.Ways.{whole_ways}
 use Rattle.artery_machine.specs.Connections.{is_dialed, with_writing, place_dialed}
-use Rattle.artery_machine.specs.Node.{Node, Peer, incarnation, peer_at, current_of, conn_of, current_dial, dial_to, dial_to_current, bound_dial}
-use Rattle.artery_machine.specs.Doing.{Rule, ◌▸◌, does, tells_of, writes_on, peer_becomes, each}
-use Rattle.artery_machine.specs.Sending.{meaning_of, told_as, with_held, without_held, tells_told, tells_on, holds, tells_or_holds, tells_message, tells_held}
-use Rattle.artery_machine.specs.World.{Change, stays, going_on, ends, by_found, by_connection, connection_becomes, comes_out, is_too_much, writes, does as does_outside}
-use Rattle.artery_names.proofs.Lists.{by_test, by_option, none_is, on_cond, not_both, not_some, some_same, eq_true, eq_not, and_left, and_right, none_passes, found_there, position_passes, Put, There, Elsewhere, get_set, set_here, set_away, Or, First, Second}
-use Rattle.artery_names.proofs.Said.{all_said, said_append, sends_said, tables_said, acks_said, answers_said, speakers_said}
-use Rattle.artery_names.proofs.Talks.{Told, adopted_by, told_by, got_by, name_by, newest, newest_line, newest_wrote}
-use Rattle.artery_names.proofs.Facts.{Network, Conn, journal, sends_on, tables_on, acks_on, answers_on, Answered, AtMost, IsLawful, Out, AreHeld, BoundTo, IsBound, bound_in, bound_as, IsWritten, NodeFacts, Good}
-use Rattle.artery_names.proofs.Growing.{Grown, Still, still_self, Stepped, stepped_self, Back, Forth, Along, along_self, along_set, answered_grows}
-use Rattle.artery_names.proofs.Plain.{Same}
-use Rattle.artery_names.proofs.Outside.{outward, silent_lawful, writing_grown, writing_stepped, said_nothing, set_at, dialer_is}
-use Rattle.artery_names.proofs.Rules.{Work, Plain}
+use Rattle.artery_machine.specs.Node.{Peer, incarnation, peer_at, current_of, conn_of, current_dial, dial_to, dial_to_current, bound_dial}
+use Rattle.artery_machine.specs.Doing.{writes_on}
+use Rattle.artery_machine.specs.Sending.{meaning_of, told_as, tells_told, tells_on, holds, tells_or_holds, tells_message}
+use Rattle.artery_machine.specs.World.{Change, stays, going_on, ends, by_found, by_connection, comes_out, is_too_much, writes, does as does_outside}
+use Rattle.artery_names.proofs.Lists.{by_test, none_is, on_cond, not_both, not_some, some_same, eq_true, eq_not, and_left, and_right, none_passes, found_there, position_passes, Put, There, Elsewhere, get_set, set_here, set_away, Or, First, Second}
+use Rattle.artery_names.proofs.Said.{said_append, sends_said, tables_said, acks_said, answers_said, speakers_said}
+use Rattle.artery_names.proofs.Talks.{adopted_by, told_by, got_by, name_by, newest_line, newest_wrote}
+use Rattle.artery_names.proofs.Facts.{Network, Conn, journal, Answered, AtMost, IsLawful, Out, AreHeld, BoundTo, IsBound, bound_in, bound_as, IsWritten, NodeFacts, Good}
+use Rattle.artery_names.proofs.Growing.{still_self, Stepped, stepped_self, Back, Forth, Along, along_self, along_set, answered_grows}
+use Rattle.artery_names.proofs.Outside.{silent_lawful, writing_grown, writing_stepped, said_nothing, set_at, dialer_is}
+use Rattle.artery_names.proofs.Rules.{Work}
 use Rattle.artery_names.proofs.Later.{Later, More, at_most_self, no_more, along_grown}
-use Rattle.artery_names.proofs.Keeping.{nowhere, Kept, kept_self, Keeps, ◌▻◌, plain_keeps, stays_keep, each_keeps}
-use Rattle.artery_names.proofs.Making.{other_plain}
+use Rattle.artery_names.proofs.Keeping.{nowhere, Kept, kept_self, Keeps, plain_keeps}
 use Rattle.artery_names.proofs.Sending.{holds_plain}
 use Rattle.artery_names.proofs.Held.{told_written}
 use Rattle.artery_names.proofs.Telling.{Spoke, Quiet, Said, now_told, told_yes, told_no, it, out_told, node_told}
@@ -227,8 +225,8 @@ module _ {nobody : UniqueAddress} {u m : ℕ} {given : ℕ → ℕ} where
           let o : Out nobody d.deeds.connections (journal d.deeds) = g.out n in
           let f : NodeFacts nobody u given nowhere d.node d.deeds.connections (journal d.deeds) = g.node n in
           let is_u : (c : Conn) → is_dialed u dial c ≡ true → c.dialer ≡ u = λ c t. eq_true c.dialer u (and_left (c.dialer == u) (c.dial == dial) t) in
-          let is_dial' : (c : Conn) → is_dialed u dial c ≡ true → c.dial ≡ dial = λ c t. eq_true c.dial dial (and_right (c.dialer == u) (c.dial == dial) t) in
-          let single : IsSingle u dial d.deeds.connections = λ i j c k p q t r. o.dialed i j c k p q (is_u c t ∙ sym (is_u k r)) (is_dial' c t ∙ sym (is_dial' k r)) in
+          let dial_is : (c : Conn) → is_dialed u dial c ≡ true → c.dial ≡ dial = λ c t. eq_true c.dial dial (and_right (c.dialer == u) (c.dial == dial) t) in
+          let single : IsSingle u dial d.deeds.connections = λ i j c k p q t r. o.dialed i j c k p q (is_u c t ∙ sym (is_u k r)) (dial_is c t ∙ sym (dial_is k r)) in
           let s : Spoken u dial line e d.deeds spoken = spoken_outside u m dial line e d.deeds n single in
           let bound : BoundTo nobody d.node.me d.deeds.connections (journal d.deeds) a dial uid = subst (IsBound nobody d.node.me d.deeds.connections (journal d.deeds) a) b.bound (f.peers a).ordinary in
           let held : AreHeld d.deeds.connections d.node.me a (journal d.deeds) (peer_at a d.node).tables (Some uid) = subst (AreHeld d.deeds.connections d.node.me a (journal d.deeds) (peer_at a d.node).tables) b.current (f.tables a refl) in

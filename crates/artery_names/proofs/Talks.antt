@@ -1,19 +1,16 @@
 -- What is read in the lines of a journal, the newest first: the numbers adopted, what was told and got on a connection, and who bears a UID.
-use Rattle.std.proofs.Common.{◌≡◌, ℕ, ◌≤◌, Bool, true, false, ◌&&◌, ◌||◌, cond, List, [], ◌∷◌, ◌++◌, map, refl, sym, ◌∙◌, ap}
+use Rattle.std.proofs.Common.{◌≡◌, ℕ, cond, List, [], ◌∷◌, ◌++◌, map, refl, ◌∙◌, ap}
 use Rattle.std.specs.Prelude.{Option, None, Some, ◌==◌}
-use Rattle.artery_base.specs.declared.address.Address.{Address}
 use Rattle.artery_base.specs.declared.address.UniqueAddress.{UniqueAddress}
 use Rattle.artery_base.specs.declared.message.Tell.{Tell}
 use Rattle.artery_journal.specs.declared.line.Line.{Line}
 use Rattle.artery_journal.specs.declared.line.Line.TheVariants as lines
 use Rattle.artery_journal.specs.declared.words.Kind.{Kind}
-use Rattle.artery_journal.specs.declared.words.Kind.TheVariants.{Refs, Manifests}
 use Rattle.artery_judge.specs.Lines.{Way, is_way, says_told, says_got}
 use Rattle.artery_judge.specs.Laws.{is_dial, is_nonce}
 use Rattle.artery_machine.specs.declared.world.Outcome.{Outcome}
 use Rattle.artery_machine.specs.declared.world.Outcome.TheVariants as outcomes
-use Rattle.artery_machine.specs.Node.{OfKinds, of_kind, of_each, change_kind}
-use Rattle.artery_names.proofs.Lists.{Each, each_push, Within}
+use Rattle.artery_machine.specs.Node.{OfKinds, of_each, change_kind}
 
 -- ---- a line
 

@@ -1,6 +1,6 @@
 -- An ordinary message is told and written: the facts stay true.
-use Rattle.std.proofs.Common.{◌≡◌, ℕ, ◌+◌, ◌≤◌, Bool, true, false, ◌&&◌, cond, List, [], ◌∷◌, ◌++◌, length, refl, sym, ◌∙◌, ap, subst, arith, append-nil, rules, length-append}
-use Rattle.std.specs.Prelude.{Option, None, Some, ◌==◌, slice_get}
+use Rattle.std.proofs.Common.{◌≡◌, ℕ, ◌+◌, ◌≤◌, Bool, true, false, ◌&&◌, cond, List, [], ◌∷◌, ◌++◌, length, refl, sym, ◌∙◌, ap, subst, arith, rules, length-append}
+use Rattle.std.specs.Prelude.{Some, ◌==◌, slice_get}
 use Rattle.std.specs.Cmp.Rules.{comparing}
 use Rattle.artery_base.specs.declared.address.Address.{Address}
 use Rattle.artery_base.specs.declared.address.UniqueAddress.{UniqueAddress}
@@ -8,21 +8,20 @@ use Rattle.artery_base.specs.declared.message.Tell.{Tell}
 use Rattle.artery_header.specs.Envelope.{EnvelopeOf}
 use Rattle.artery_journal.specs.declared.line.Line.{Line}
 use Rattle.artery_journal.specs.declared.line.Line.TheVariants as lines
-use Rattle.artery_journal.specs.declared.words.Kind.{Kind}
-use Rattle.artery_judge.specs.Lines.{is_way, same}
+use Rattle.artery_judge.specs.Lines.{same}
 use Rattle.artery_judge.specs.Laws.{is_dial}
 use Rattle.artery_machine.specs.Parts.{whole}
-use Rattle.artery_machine.specs.Connections.{is_dialed, is_inward}
-use Rattle.artery_machine.specs.Node.{Node, Peer, Inbound, OfKinds, of_kind, incarnation, peer_at, inbound_at}
+use Rattle.artery_machine.specs.Connections.{is_dialed}
+use Rattle.artery_machine.specs.Node.{Node, Peer, Inbound, of_kind, incarnation, peer_at, inbound_at}
 use Rattle.artery_machine.specs.Ticking.{numbers_from}
 use Rattle.artery_handshake.specs.declared.in_conn.InState.TheVariants.{Raw}
-use Rattle.artery_names.proofs.Lists.{by_test, not_both, not_some, eq_true, eq_self, and_left, and_right, and_both, Each, each_get, each_weaker, each_push, Or, First, Second}
+use Rattle.artery_names.proofs.Lists.{by_test, not_both, eq_true, eq_self, and_left, and_right, and_both, Each, each_get, each_weaker, each_push, Or, First, Second}
 use Rattle.artery_names.proofs.Said.{Tabling, Acking, Answering}
-use Rattle.artery_names.proofs.Talks.{Told, adopted_by, told_by, got_by, name_by, SameTalk, same_talk}
-use Rattle.artery_names.proofs.Facts.{Network, Conn, sends_on, tables_on, acks_on, answers_on, speakers_on, Announced, Answered, Made, IsWritten, AreWritten, AtMost, AreRising, TalkFacts, ConnFacts, Out, AreHeld, BoundTo, bound_in, PeerFacts, StoryFacts, IsFramed, story_of, stories_of, IsKnown, InFacts, Heard, NodeFacts}
-use Rattle.artery_names.proofs.Growing.{Grown, Still, dialed_same, inward_same, Back, Forth, Along, along_wider, answered_grows, made_grows, written_grows, all_written_grow, all_written_more, all_written_push}
+use Rattle.artery_names.proofs.Talks.{Told, adopted_by, told_by, name_by, same_talk}
+use Rattle.artery_names.proofs.Facts.{Conn, sends_on, tables_on, acks_on, answers_on, speakers_on, Answered, Made, IsWritten, AreWritten, AtMost, AreRising, TalkFacts, ConnFacts, Out, BoundTo, bound_in, PeerFacts, IsFramed, story_of, stories_of, IsKnown, InFacts, Heard, NodeFacts}
+use Rattle.artery_names.proofs.Growing.{Grown, Still, dialed_same, inward_same, Along, along_wider, made_grows, written_grows, all_written_grow, all_written_more, all_written_push}
 use Rattle.artery_names.proofs.Plain.{Same, in_plain, announced_more, bound_grows, all_held_grow}
-use Rattle.artery_names.proofs.Later.{More, at_most_self, at_most_trans, no_more, in_talk}
+use Rattle.artery_names.proofs.Later.{More, at_most_self, no_more, in_talk}
 
 pub same_is : (a b : UniqueAddress) → same a b ≡ true → a ≡ b
 same_is a b h = search (comparing, rules)

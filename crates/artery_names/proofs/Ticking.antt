@@ -1,12 +1,11 @@
 -- What is due at a moment keeps the facts: connections, messages, heartbeats, sleep, and tables.
-use Rattle.std.proofs.Common.{◌≡◌, ℕ, zero, suc, ◌+◌, ◌≤◌, Bool, true, false, ◌&&◌, cond, List, [], ◌∷◌, length, refl, sym, ◌∙◌, ap, subst, arith}
-use Rattle.std.specs.Prelude.{Option, None, Some, ◌==◌, nat_le, not, is_some, slice_get}
+use Rattle.std.proofs.Common.{◌≡◌, ℕ, suc, ◌+◌, ◌≤◌, Bool, true, false, ◌&&◌, cond, List, [], ◌∷◌, length, refl, sym, ◌∙◌, ap, subst, arith, map}
+use Rattle.std.specs.Prelude.{Option, None, Some, nat_le, not, slice_get}
 use Rattle.std.specs.List.{find}
 use Rattle.std.specs.Option.{option_map}
 use Rattle.artery_base.specs.declared.address.Address.{Address}
 use Rattle.artery_base.specs.declared.address.UniqueAddress.{UniqueAddress}
 use Rattle.artery_assoc.specs.Peer.{PeerState}
-use Rattle.artery_control.specs.declared.control.Control.{Control}
 use Rattle.artery_control.specs.declared.control.Control.TheVariants as controls
 use Rattle.artery_frame.specs.declared.stream.Stream.{Stream}
 use Rattle.artery_frame.specs.declared.stream.Stream.TheVariants as streams
@@ -27,25 +26,24 @@ use Rattle.artery_tables.specs.InTables.{announced_in}
 use Rattle.artery_machine.specs.Deeds.{Writing, Controls}
 use Rattle.artery_machine.specs.Parts.{whole}
 use Rattle.artery_machine.specs.Connections.{is_dialed, is_inward}
-use Rattle.artery_machine.specs.Node.{Node, Peer, Inbound, Origin, of_kind, incarnation, is_number, inbound_at, peer_at, address_of, current_of, conn_of, link_of, with_link, origin_at}
-use Rattle.artery_machine.specs.Doing.{Doing, Rule, ◌▸◌, stays, where_true, becomes, tells_of, writes_on, peer_becomes, origin_becomes, each}
+use Rattle.artery_machine.specs.Node.{Node, Inbound, Origin, of_kind, incarnation, is_number, peer_at, address_of, current_of, conn_of, link_of, origin_at}
+use Rattle.artery_machine.specs.Doing.{◌▸◌, stays, where_true, becomes, writes_on, peer_becomes, origin_becomes, each}
 use Rattle.artery_machine.specs.Making.{dials}
-use Rattle.artery_machine.specs.Closing.{control_dial, on_control, closes_current, drops_ordinary}
+use Rattle.artery_machine.specs.Closing.{control_dial, closes_current, drops_ordinary}
 use Rattle.artery_machine.specs.Sending.{rewinds, pumps}
 use Rattle.artery_machine.specs.Watching.{watches_at}
-use Rattle.artery_machine.specs.Handshaking.{change_conn, asks_on, gives_up, quiet_now}
+use Rattle.artery_machine.specs.Handshaking.{change_conn, quiet_now}
 use Rattle.artery_machine.specs.Hearing.{table_number, sequence_of}
-use Rattle.artery_machine.specs.Ticking.{numbers_from, advertisement, is_ordinary, is_due_since, heartbeat_after, is_settled, is_bound, is_lost, is_quiet, is_idle, asked_at, beaten_at, asleep_now, unconfirmed_of, with_advertised, advertised_now, is_to_advertise, at_moment, redials, due_as, tends_as, tends, tends_control, tends_ordinary, loses_patience, resends, beats_on, beats, detects_of, detects_as, detects, drops_control, tells_idle, sleeps, ticks_peer, announces, tells_advertised, advertises_as, advertises_settled, advertises, ticks_origin, ticks_peers, ticks_origins, ticks}
-use Rattle.artery_names.proofs.Lists.{eq_true, eq_self, and_left, and_right, and_both, some_same, not_some, Each, Or, First, Second}
-use Rattle.artery_names.proofs.Said.{Tabling, tables_said, carried}
+use Rattle.artery_machine.specs.Ticking.{numbers_from, advertisement, is_ordinary, is_due_since, heartbeat_after, is_settled, is_bound, is_lost, is_quiet, is_idle, asked_at, beaten_at, asleep_now, unconfirmed_of, with_advertised, advertised_now, is_to_advertise, at_moment, redials, due_as, tends_as, tends, tends_control, tends_ordinary, loses_patience, resends, beats_on, beats, detects_of, detects_as, detects, drops_control, tells_idle, sleeps, ticks_peer, announces, tells_advertised, advertises_as, advertises, ticks_origin, ticks_peers, ticks_origins, ticks}
+use Rattle.artery_names.proofs.Lists.{some_same, not_some, Or, First, Second}
+use Rattle.artery_names.proofs.Said.{carried}
 use Rattle.artery_names.proofs.Talks.{name_by}
-use Rattle.artery_names.proofs.Facts.{Network, Conn, journal, Out, IsFramed, story_of, Heard, stories_of, NodeFacts, Good}
+use Rattle.artery_names.proofs.Facts.{Conn, journal, IsFramed, story_of, Heard, stories_of, Good}
 use Rattle.artery_names.proofs.Growing.{Grown, Along, carried_more, inward_same}
 use Rattle.artery_names.proofs.Plain.{Same}
-use Rattle.artery_names.proofs.Outside.{outward}
-use Rattle.artery_names.proofs.Rules.{Work, Plain, ◌▹◌, kept_plain, stays_plain, tells_plain, where_plain, origin_plain}
-use Rattle.artery_names.proofs.Later.{Later, later_self, along_grown}
-use Rattle.artery_names.proofs.Keeping.{nowhere, Kept, kept_self, plain_keeps, Keeps, ◌▻◌, stays_keep, if_keeps, where_keeps, each_keeps}
+use Rattle.artery_names.proofs.Rules.{Work, Plain, ◌▹◌, kept_plain, stays_plain, where_plain, origin_plain}
+use Rattle.artery_names.proofs.Later.{Later, along_grown}
+use Rattle.artery_names.proofs.Keeping.{nowhere, Kept, kept_self, plain_keeps, Keeps, ◌▻◌, stays_keep, each_keeps}
 use Rattle.artery_names.proofs.Making.{link_plain, ticked_less, dials_plain, gives_up_plain, control_plain, other_plain, drops_ordinary_plain, drops_control_plain, pumps_plain, rewinds_plain}
 use Rattle.artery_names.proofs.Sending.{line_plain}
 use Rattle.artery_names.proofs.Closing.{closes_kept, closes_current_kept}
@@ -58,21 +56,18 @@ use Rattle.artery_names.proofs.Adopting.{number_told, bound_ends}
 -- ---- peers
 
 module _ {u m : ℕ} where
-  peer_same : (a : Address) (g : Peer whole → Peer whole) → ((p : Peer whole) → Rattle.artery_names.proofs.Rules.SamePeer p (g p)) → Plain u m (peer_becomes a g)
-  peer_same a g s = other_plain a g s
-
   redials_plain : (stream : Stream) (a : Address) (may : Bool) → Plain u m (redials stream a may)
   redials_plain stream a may = record { on = λ d. (where_plain (may && nat_le (link_of stream (peer_at a d.node)).redial d.node.moment) (dials stream a) (dials_plain stream a)).on d }
 
   resends_plain : (a : Address) → Plain u m (resends a)
   resends_plain a = record {
     on = λ d. (where_plain (is_quiet d.node.moment (peer_at a d.node)) (rewinds a ▸ pumps a ▸ peer_becomes a (quiet_now d.node.moment))
-        (rewinds_plain a ▹ pumps_plain a ▹ peer_same a (quiet_now d.node.moment) (λ p. record { known = refl; tables = refl; control = Same refl; ordinary = Same refl }))).on d;
+        (rewinds_plain a ▹ pumps_plain a ▹ other_plain a (quiet_now d.node.moment) (λ p. record { known = refl; tables = refl; control = Same refl; ordinary = Same refl }))).on d;
   }
 
   beats_on_plain : (v : UniqueAddress) (x : Option ℕ) → Plain u m (beats_on v x)
   beats_on_plain v None = record { on = λ d. stays_plain.on d }
-  beats_on_plain v (Some dial) = record { on = λ d. (control_plain v controls.Heartbeat refl ▹ peer_same v.address (beaten_at d.node.moment) (λ p. record { known = refl; tables = refl; control = Same refl; ordinary = Same refl })).on d }
+  beats_on_plain v (Some dial) = record { on = λ d. (control_plain v controls.Heartbeat refl ▹ other_plain v.address (beaten_at d.node.moment) (λ p. record { known = refl; tables = refl; control = Same refl; ordinary = Same refl })).on d }
 
   beats_now_plain : (v : UniqueAddress) → Plain u m (λ e. beats_on v (control_dial v e.node) e)
   beats_now_plain v = record { on = λ e. (beats_on_plain v (control_dial v e.node)).on e }
@@ -87,7 +82,7 @@ module _ {u m : ℕ} where
   sleeps_plain : (a : Address) → Plain u m (sleeps a)
   sleeps_plain a = record {
     on = λ d. (where_plain (is_idle d.node.moment (peer_at a d.node) && not (watches_at a d.node)) (tells_idle a (current_of (peer_at a d.node)) ▸ drops_ordinary a ▸ drops_control a ▸ peer_becomes a asleep_now)
-        (idle_plain a (current_of (peer_at a d.node)) ▹ drops_ordinary_plain a ▹ drops_control_plain a ▹ peer_same a asleep_now (λ p. record { known = refl; tables = refl; control = Same refl; ordinary = Same refl }))).on d;
+        (idle_plain a (current_of (peer_at a d.node)) ▹ drops_ordinary_plain a ▹ drops_control_plain a ▹ other_plain a asleep_now (λ p. record { known = refl; tables = refl; control = Same refl; ordinary = Same refl }))).on d;
   }
 
 module _ {nobody : UniqueAddress} {u m : ℕ} {given : ℕ → ℕ} where
@@ -133,7 +128,7 @@ module _ {nobody : UniqueAddress} {u m : ℕ} {given : ℕ → ℕ} where
       (detects_of_kept a uid d1 (ap (λ (i : PeerState). i.current) ((asked.on d).node.known a) ∙ c) ((plain_keeps (peer_becomes a (asked_at d.node.moment)) asked).on d g).good)
     where
       asked : Plain u m (peer_becomes a (asked_at d.node.moment))
-      asked = peer_same a (asked_at d.node.moment) (λ p. record { known = refl; tables = refl; control = Same refl; ordinary = Same refl })
+      asked = other_plain a (asked_at d.node.moment) (λ p. record { known = refl; tables = refl; control = Same refl; ordinary = Same refl })
 
       d1 : Work u m
       d1 = peer_becomes a (asked_at d.node.moment) d
@@ -149,7 +144,7 @@ module _ {nobody : UniqueAddress} {u m : ℕ} {given : ℕ → ℕ} where
   peer_keeps a = control_keeps a ▻ ordinary_keeps a ▻ patience_keeps a ▻ plain_keeps _ (resends_plain a) ▻ detects_keep a ▻ plain_keeps _ (sleeps_plain a)
 
   peers_keep : Keeps nobody u m given ticks_peers
-  peers_keep = record { on = λ d g. (each_keeps (Rattle.std.proofs.Common.map address_of d.node.peers) ticks_peer peer_keeps).on d g }
+  peers_keep = record { on = λ d g. (each_keeps (map address_of d.node.peers) ticks_peer peer_keeps).on d g }
 
 -- ---- tables
 
@@ -310,7 +305,7 @@ module _ {nobody : UniqueAddress} {u m : ℕ} {given : ℕ → ℕ} where
       d1 = (becomes (at_moment now) ▸ ticks_peers) d
 
       vs : List UniqueAddress
-      vs = Rattle.std.proofs.Common.map (λ (o : Origin whole). o.who) ((becomes (at_moment now) ▸ ticks_peers) d).node.origins
+      vs = map (λ (o : Origin whole). o.who) ((becomes (at_moment now) ▸ ticks_peers) d).node.origins
 
       k : Kept nobody u given nowhere d.deeds ((becomes (at_moment now) ▸ ticks_peers) d).node ((becomes (at_moment now) ▸ ticks_peers) d).deeds
       k = (plain_keeps (becomes (at_moment now)) (kept_plain (at_moment now) (λ n. record { me = refl; peers = refl; inbound = refl; origins = refl })) ▻ peers_keep).on d g

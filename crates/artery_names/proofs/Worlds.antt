@@ -1,43 +1,42 @@
 -- A network beside what is in flight in it: what comes to a node keeps the facts of all.
-use Rattle.std.proofs.Common.{◌≡◌, ℕ, zero, suc, ◌+◌, ◌≤◌, Bool, true, false, ◌&&◌, cond, List, [], ◌∷◌, ◌++◌, length, take, drop, map, refl, sym, ◌∙◌, ap, subst, arith, append_assoc, take-append-drop}
-use Rattle.std.specs.Prelude.{Option, None, Some, ◌==◌, not, is_none, slice_get, slice_set}
+use Rattle.std.proofs.Common.{◌≡◌, ℕ, ◌≤◌, true, false, List, ◌++◌, take, drop, refl, sym, ◌∙◌, ap, subst, arith, append_assoc, take-append-drop}
+use Rattle.std.specs.Prelude.{Option, None, Some, ◌==◌}
 use Rattle.std.specs.List.{find, list_any}
 use Rattle.artery_base.specs.Words.{IsPrefix}
 use Rattle.artery_base.specs.declared.address.UniqueAddress.{UniqueAddress}
-use Rattle.artery_frame.specs.declared.stream.Stream.TheVariants as streams
 use Rattle.artery_journal.specs.declared.line.Line.{Line}
 use Rattle.artery_machine.specs.declared.input.Input.{Input}
 use Rattle.artery_machine.specs.declared.input.Input.TheVariants as inputs
-use Rattle.artery_machine.specs.Lists.{change_first}
 use Rattle.artery_machine.specs.Parts.{whole}
 use Rattle.artery_machine.specs.Ways.{Wrote, bytes_on}
 use Rattle.artery_machine.specs.Connections.{is_inward}
-use Rattle.artery_machine.specs.Node.{Node, Inbound, OfKinds, of_each, is_number, inbound_at}
+use Rattle.artery_machine.specs.Node.{Node, Inbound, of_each, is_number}
 use Rattle.artery_machine.specs.Doing.{Doing, listed}
-use Rattle.artery_machine.specs.Reacting.{reacts, step}
+use Rattle.artery_machine.specs.Reacting.{step}
 use Rattle.artery_machine.specs.World.{Live, has_uid, with_node, live_of, by_found, node_becomes, each, does, follows, gives, was_started}
 use Rattle.artery_flight.specs.Answers.{IsReadBack}
 use Rattle.artery_flight.proofs.Lists.{each_of, each_find, each_single, count, count_found, find_passes}
-use Rattle.artery_flight.proofs.Grow.{AllRead, TheOne, each_front, read_before, one_placed}
-use Rattle.artery_flight.proofs.Facts.{ConnFacts}
+use Rattle.artery_flight.proofs.Grow.{AllRead, each_front, read_before, one_placed}
+use Rattle.artery_flight.proofs.Facts.{ConnFacts, Grow}
 use Rattle.artery_flight.proofs.Deeds.{only}
 use Rattle.artery_flight.proofs.Rules.{bytes_in, bytes_at}
 use Rattle.artery_flight.proofs.Inward.{BytesFrom, Reacted}
 use Rattle.artery_flight.proofs.Feeding.{Rest, IsHeard}
-use Rattle.artery_flight.proofs.Networks.{LiveFacts, Unstarted, Going, HoldsBut}
+use Rattle.artery_flight.proofs.Networks.{LiveFacts, Going, HoldsBut}
 use Rattle.artery_flight.proofs.Coming.{Gave, Arrives, Came, Leaves, deeds_leave, go_outside, step_kept, gives_came}
-use Rattle.artery_names.proofs.Lists.{by_test, eq_true, eq_self, eq_not, and_left, and_right, Each, each_weaker, each_get}
+use Rattle.artery_names.proofs.Lists.{eq_true, eq_self, eq_not, Each, each_weaker, each_get}
 use Rattle.artery_names.proofs.Talks.{adopted_by, name_by, SameTalk, same_said}
 use Rattle.artery_names.proofs.Facts.{Network, Conn, journal, IsLawful, Out, NodeFacts, Good}
 use Rattle.artery_names.proofs.Growing.{Grown, Still, Along, along_wider}
 use Rattle.artery_names.proofs.Plain.{same_node, node_plain, out_plain}
-use Rattle.artery_names.proofs.Later.{Later, others_later}
-use Rattle.artery_names.proofs.Keeping.{nowhere, Kept}
-use Rattle.artery_names.proofs.Giving.{Comes'}
+use Rattle.artery_names.proofs.Later.{others_later}
+use Rattle.artery_names.proofs.Keeping.{nowhere}
+use Rattle.artery_names.proofs.Giving.{MadeJustNow}
 use Rattle.artery_names.proofs.Ticking.{Carrying}
 use Rattle.artery_names.proofs.Reacting.{Counts, Ready, Reacts, reacts_kept}
 use Rattle.artery_names.proofs.Reacting as coming
 use Rattle.artery_names.proofs.Streams.{arrives_so, carries_so}
+use Rattle.artery_names.proofs.Rules.{Work}
 
 -- ---- what holds of a network
 
@@ -114,7 +113,7 @@ front_bytes c bytes left e = (
 
 -- what is needed besides where a connection comes in
 abbrev pub Besides : UniqueAddress → ℕ → Input → Network → Type 0
-Besides nobody u (inputs.Accepted k) w = AllRead w.connections → Comes' nobody u k w.connections (journal w)
+Besides nobody u (inputs.Accepted k) w = AllRead w.connections → MadeJustNow nobody u k w.connections (journal w)
 Besides nobody u _ w = Unit {0}
 
 abbrev pub HeardAt : ℕ → Node whole → Rest → Network → Type 0
@@ -155,10 +154,10 @@ outside_reacts : (nobody : UniqueAddress) (u : ℕ) (input : Input) (n : Node wh
 outside_reacts nobody u input n w given c r f g =
     let m : ℕ = (step input n).node.moment in
     let e = go_outside u m input n w in
-    subst (λ (d : Rattle.artery_names.proofs.Rules.Work u m). Reacts nobody u w d.node d.deeds) e
+    subst (λ (d : Work u m). Reacts nobody u w d.node d.deeds) e
     (reacts_kept input (record { node = n; deeds = w }) c
-        (subst (λ (d : Rattle.artery_names.proofs.Rules.Work u m). Ready nobody u given input n d.node w) (sym e) r)
-        (subst (λ (d : Rattle.artery_names.proofs.Rules.Work u m). (j : ℕ) (bytes : List ℕ) → bytes_at j d.node ≡ Some bytes → BytesFrom input j bytes n) (sym e) f) g)
+        (subst (λ (d : Work u m). Ready nobody u given input n d.node w) (sym e) r)
+        (subst (λ (d : Work u m). (j : ℕ) (bytes : List ℕ) → bytes_at j d.node ≡ Some bytes → BytesFrom input j bytes n) (sym e) f) g)
 
 module _ (nobody : UniqueAddress) (u : ℕ) (input : Input) (r s : Rest) (w : Network) (l : Live whole) (found : live_of u w ≡ Some l) (live : w.ended ≡ None) (a : Arrives u input s w) (gave : Gave u input r s) (h : HoldsBut r w) (all : AllRead w.connections) (b : Besides nobody u input w) (names : Names nobody w) where
   is_u : l.node.me.uid ≡ u
@@ -245,6 +244,6 @@ gives_both nobody u input r s w live a absent gave b h = by (live_of u w) refl
     by (Some l) e = record {
       holds = subst (λ (x : Option (Live whole)). HoldsBut s (by_found (λ l. follows u (step input l.node)) x w)) e came.holds;
       names = λ all. (let before : AllRead w.connections = read_before (only u) w.connections (follows u (step input l.node) w).connections
-              (subst (λ (x : Option (Live whole)). Rattle.artery_flight.proofs.Facts.Grow (only u) w.connections (by_found (λ l. follows u (step input l.node)) x w).connections) e came.conns) all in
+              (subst (λ (x : Option (Live whole)). Grow (only u) w.connections (by_found (λ l. follows u (step input l.node)) x w).connections) e came.conns) all in
           follows_names nobody u input r s w l e live (a l e) gave h.holds before b (h.names before));
     }

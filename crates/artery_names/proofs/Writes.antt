@@ -1,6 +1,6 @@
 -- A table, the acknowledgement of one, or an answer is written: the facts stay true.
-use Rattle.std.proofs.Common.{◌≡◌, ℕ, ◌≤◌, Bool, true, false, ◌&&◌, cond, List, [], ◌∷◌, ◌++◌, length, refl, sym, ◌∙◌, ap, subst, append-nil}
-use Rattle.std.specs.Prelude.{Option, None, Some, ◌==◌, not, is_none, slice_get, slice_set}
+use Rattle.std.proofs.Common.{◌≡◌, ℕ, ◌≤◌, Bool, true, List, [], ◌∷◌, ◌++◌, length, refl, sym, ◌∙◌, ap, subst, append-nil}
+use Rattle.std.specs.Prelude.{Option, None, Some, not, is_none, slice_get}
 use Rattle.artery_base.specs.declared.address.Address.{Address}
 use Rattle.artery_base.specs.declared.address.UniqueAddress.{UniqueAddress}
 use Rattle.artery_journal.specs.declared.line.Line.{Line}
@@ -10,19 +10,19 @@ use Rattle.artery_machine.specs.Deeds.{Writing, Writes, bytes_of}
 use Rattle.artery_machine.specs.Parts.{whole}
 use Rattle.artery_machine.specs.Ways.{whole_ways}
 use Rattle.artery_machine.specs.Connections.{is_dialed, with_writing, place_dialed}
-use Rattle.artery_machine.specs.Node.{Node, Peer, Inbound, of_kind, peer_at, inbound_at}
-use Rattle.artery_machine.specs.Doing.{Rule, does, writes_on}
+use Rattle.artery_machine.specs.Node.{Node, Inbound, of_kind, peer_at, inbound_at}
+use Rattle.artery_machine.specs.Doing.{writes_on}
 use Rattle.artery_machine.specs.Ticking.{numbers_from}
-use Rattle.artery_machine.specs.World.{Change, stays, going_on, ends, by_found, by_connection, connection_becomes, comes_out, is_too_much, writes, does as does_outside}
-use Rattle.artery_names.proofs.Lists.{none_is, on_cond, not_both, not_some, some_same, eq_true, eq_not, position_passes, Put, There, Elsewhere, get_set, set_here, set_away, Each, each_weaker, each_both, Or, First, Second}
+use Rattle.artery_machine.specs.World.{Change, stays, going_on, ends, by_found, by_connection, comes_out, is_too_much, writes, does as does_outside}
+use Rattle.artery_names.proofs.Lists.{on_cond, not_some, position_passes, Each, each_weaker, each_both, Or, First, Second}
 use Rattle.artery_names.proofs.Said.{Tabling, Acking, Answering, all_said, said_append, sends_said, tables_said, acks_said, answers_said, speakers_said}
 use Rattle.artery_names.proofs.Talks.{adopted_by, told_by, got_by, name_by, newest_wrote, same_talk}
-use Rattle.artery_names.proofs.Facts.{Network, Conn, journal, sends_on, tables_on, acks_on, answers_on, Made, AreWritten, ConnFacts, IsLawful, Out, IsFramed, story_of, stories_of, IsKnown, bound_in, PeerFacts, InFacts, Heard, NodeFacts, Good}
-use Rattle.artery_names.proofs.Growing.{Grown, Still, still_self, Stepped, stepped_self, Back, Forth, Along, along_self, along_set, along_wider, dialed_same, inward_same, made_grows, all_written_grow}
+use Rattle.artery_names.proofs.Facts.{Network, Conn, journal, sends_on, tables_on, answers_on, Made, AreWritten, ConnFacts, IsLawful, Out, IsFramed, story_of, stories_of, IsKnown, bound_in, InFacts, Heard, NodeFacts, Good}
+use Rattle.artery_names.proofs.Growing.{Grown, still_self, Stepped, stepped_self, Along, along_self, along_set, along_wider, dialed_same, inward_same, made_grows, all_written_grow}
 use Rattle.artery_names.proofs.Plain.{Same, in_plain, announced_more, bound_grows, all_held_grow}
-use Rattle.artery_names.proofs.Outside.{outward, writing_grown, writing_stepped, set_at, dialer_is}
+use Rattle.artery_names.proofs.Outside.{writing_grown, writing_stepped, set_at, dialer_is}
 use Rattle.artery_names.proofs.Rules.{Work}
-use Rattle.artery_names.proofs.Later.{Later, at_most_self, at_most_same, no_more}
+use Rattle.artery_names.proofs.Later.{at_most_same, no_more}
 use Rattle.artery_names.proofs.Keeping.{nowhere, Kept, kept_self}
 
 -- A connection on which this may have been written.
