@@ -120,10 +120,10 @@ module _ (nobody : UniqueAddress) (u : ℕ) (given : ℕ → ℕ) (v : UniqueAdd
   pub adopted_rises : (a b : UniqueAddress) → AtMost (adopted_by a b ls) (adopted_by a b (line ∷ ls))
   adopted_rises a b other = on_cond (λ (x : OfKinds ℕ). of_kind other (adopted_by a b ls) ≤ of_kind other x) (is_way a b (n.me, v)) (change_kind kind (λ k. number) (adopted_by a b ls)) (adopted_by a b ls)
       (λ t. kind_changed (λ (x : ℕ). of_kind other (adopted_by a b ls) ≤ x) kind other (λ k. number) (adopted_by a b ls)
-          (λ q. (let e = at_it a b t in
-              subst (λ (x : Kind). of_kind x (adopted_by a b ls) ≤ number) q
-              (subst (λ (x : UniqueAddress). of_kind kind (adopted_by x b ls) ≤ number) (sym e.0) (subst (λ (x : UniqueAddress). of_kind kind (adopted_by n.me x ls) ≤ number) (sym e.1) above))))
-          (omega arith))
+      (λ q. (let e = at_it a b t in
+      subst (λ (x : Kind). of_kind x (adopted_by a b ls) ≤ number) q
+      (subst (λ (x : UniqueAddress). of_kind kind (adopted_by x b ls) ≤ number) (sym e.0) (subst (λ (x : UniqueAddress). of_kind kind (adopted_by n.me x ls) ≤ number) (sym e.1) above))))
+      (omega arith))
       (λ t. omega arith)
 
   pub adopted_away : (a b : UniqueAddress) → (a ≡ n.me → b ≡ v → ⊥) → adopted_by a b (line ∷ ls) ≡ adopted_by a b ls
@@ -135,10 +135,13 @@ module _ (nobody : UniqueAddress) (u : ℕ) (given : ℕ → ℕ) (v : UniqueAdd
   adopts_announced : (a b : UniqueAddress) (other : Kind) → IsAnnounced nobody cs a b other (of_kind other (adopted_by a b (line ∷ ls)))
   adopts_announced a b other = on_cond (λ (x : OfKinds ℕ). IsAnnounced nobody cs a b other (of_kind other x)) (is_way a b (n.me, v)) (change_kind kind (λ k. number) (adopted_by a b ls)) (adopted_by a b ls)
       (λ t. kind_changed (λ (x : ℕ). IsAnnounced nobody cs a b other x) kind other (λ k. number) (adopted_by a b ls)
-          (λ q. (let e = at_it a b t in
-              Second (keys, subst (λ (x : Kind). Announced cs b.uid a.uid x number keys) q
-              (subst (λ (x : UniqueAddress). Announced cs x.uid a.uid kind number keys) (sym e.1) (subst (λ (x : UniqueAddress). Announced cs v.uid x.uid kind number keys) (sym e.0) announced)))))
-          (out.adopts a b other))
+      (λ q. (let e = at_it a b t in
+      Second (
+        keys,
+        subst (λ (x : Kind). Announced cs b.uid a.uid x number keys) q
+            (subst (λ (x : UniqueAddress). Announced cs x.uid a.uid kind number keys) (sym e.1) (subst (λ (x : UniqueAddress). Announced cs v.uid x.uid kind number keys) (sym e.0) announced)),
+      )))
+      (out.adopts a b other))
       (λ t. out.adopts a b other)
 
   pub out_adopted : Out nobody cs (line ∷ ls)
@@ -213,34 +216,42 @@ module _ (nobody : UniqueAddress) (u : ℕ) (given : ℕ → ℕ) (v : UniqueAdd
     ordered = h.ordered;
     peers = λ b. on_changed v.address b change (λ p. refl) (λ (q : Peer whole). PeerFacts nobody n.me cs (line ∷ ls) b q) n.peers
         (λ e p f. (let was : PeerFacts nobody n.me cs ls v.address p = subst (PeerFacts nobody n.me cs ls v.address) (is_it p f) (h.peers v.address) in
-            let c : current_of p ≡ Some v.uid = sym (ap (λ (q : Peer whole). current_of q) (is_it p f)) ∙ now in
-            let x : PeerFacts nobody n.me cs (line ∷ ls) v.address p = peer_told v.address p (its_uid p c v.address) was in
-            let y : PeerFacts nobody n.me cs (line ∷ ls) v.address (change p) = record { alive = x.alive; unspoken = x.unspoken; control = x.control; ordinary = x.ordinary } in
-            subst (λ (a : Address). PeerFacts nobody n.me cs (line ∷ ls) a (change p)) (sym e) y))
+        let c : current_of p ≡ Some v.uid = sym (ap (λ (q : Peer whole). current_of q) (is_it p f)) ∙ now in
+        let x : PeerFacts nobody n.me cs (line ∷ ls) v.address p = peer_told v.address p (its_uid p c v.address) was in
+        let y : PeerFacts nobody n.me cs (line ∷ ls) v.address (change p) = record { alive = x.alive; unspoken = x.unspoken; control = x.control; ordinary = x.ordinary } in
+        subst (λ (a : Address). PeerFacts nobody n.me cs (line ∷ ls) a (change p)) (sym e) y))
         (λ e f. missing f)
         (λ t. peer_told b (peer_at b n) (λ uid s q. its_address b uid t q) (h.peers b));
     tables = λ b x. on_changed v.address b change (λ p. refl) (λ (q : Peer whole). AreHeld cs n.me b (line ∷ ls) q.tables q.incarnations.current) n.peers
         (λ e p f. (let c : current_of p ≡ Some v.uid = sym (ap (λ (q : Peer whole). current_of q) (is_it p f)) ∙ now in
-            subst (λ (a : Address). AreHeld cs n.me a (line ∷ ls) (change p).tables p.incarnations.current) (sym e)
-            (subst (λ (o : Option ℕ). AreHeld cs n.me v.address (line ∷ ls) (change p).tables o) (sym c)
-            (subst (λ (q : Peer whole). AreHeld cs n.me v.address (line ∷ ls) (change q).tables (Some v.uid)) (is_it p f) held_then))))
+        subst (λ (a : Address). AreHeld cs n.me a (line ∷ ls) (change p).tables p.incarnations.current) (sym e)
+        (subst (λ (o : Option ℕ). AreHeld cs n.me v.address (line ∷ ls) (change p).tables o) (sym c)
+        (subst (λ (q : Peer whole). AreHeld cs n.me v.address (line ∷ ls) (change q).tables (Some v.uid)) (is_it p f) held_then))))
         (λ e f. missing f)
         (λ t. all_held_grow nobody cs cs n.me b ls (line ∷ ls) (peer_at b n).tables (peer_at b n).incarnations.current (along_self Grown grown_self cs) (λ uid c. adopted_away n.me (incarnation b uid) (λ y z. its_address b uid t z)) (h.tables b refl));
     gone = λ b x. not_both x refl;
-    origins = λ a other. record { story = (h.origins a other).story; below = (let x : (story_of other a n).confirmed ≤ of_kind other (adopted_by a n.me ls) = (h.origins a other).below in
-        let y : of_kind other (adopted_by a n.me ls) ≤ of_kind other (adopted_by a n.me (line ∷ ls)) = adopted_rises a n.me other in omega arith) };
+    origins = λ a other. record {
+      story = (h.origins a other).story;
+      below = (let x : (story_of other a n).confirmed ≤ of_kind other (adopted_by a n.me ls) = (h.origins a other).below in
+          let y : of_kind other (adopted_by a n.me ls) ≤ of_kind other (adopted_by a n.me (line ∷ ls)) = adopted_rises a n.me other in omega arith);
+    };
     framed = h.framed;
     inbound = λ k i at. (let y : Heard nobody n.me (given k) (stories_of n) cs ls k i = h.inbound k i at in
         let a : UniqueAddress = name_by nobody y.conn.dialer ls in
-        record { place = y.place; conn = y.conn; is = y.is; inward = y.inward;
-            facts = in_talk n.me a (given k) (stories_of n a) ls (line ∷ ls) i y.conn refl (adopted_rises a n.me) (no_more _ _ _ refl) (h.origins a) (λ p q. q) y.facts });
+        record {
+          place = y.place;
+          conn = y.conn;
+          is = y.is;
+          inward = y.inward;
+          facts = in_talk n.me a (given k) (stories_of n a) ls (line ∷ ls) i y.conn refl (adopted_rises a n.me) (no_more _ _ _ refl) (h.origins a) (λ p q. q) y.facts;
+        });
     opened = h.opened;
   }
 
 -- ---- the rules
 
 acked_may : (nobody : UniqueAddress) (u k : ℕ) (v me : UniqueAddress) (number : ℕ) (n : Node whole) (cs : List Conn) (ls : List Line) (kind : Kind) → ((i : ℕ) (c : Conn) → slice_get cs i ≡ Some c → is_dialed u k c ≡ true
-        → number ≤ of_kind kind (adopted_by (name_by nobody c.dialer ls) (name_by nobody c.far ls) ls)) → May nobody u k (Controls (table_ack kind me number)) n cs ls
+    → number ≤ of_kind kind (adopted_by (name_by nobody c.dialer ls) (name_by nobody c.far ls) ls)) → May nobody u k (Controls (table_ack kind me number)) n cs ls
 acked_may nobody u k v me number n cs ls Refs f = record { sends = refl; tables = λ i c at t. tt; acks = λ i c at t. (subst (λ (x : ℕ). x ≤ of_kind Refs (adopted_by (name_by nobody c.dialer ls) (name_by nobody c.far ls) ls)) (sym (number_told number)) (f i c at t), tt); answers = tt; speakers = tt }
 acked_may nobody u k v me number n cs ls Manifests f = record { sends = refl; tables = λ i c at t. tt; acks = λ i c at t. (subst (λ (x : ℕ). x ≤ of_kind Manifests (adopted_by (name_by nobody c.dialer ls) (name_by nobody c.far ls) ls)) (sym (number_told number)) (f i c at t), tt); answers = tt; speakers = tt }
 
@@ -262,9 +273,9 @@ module _ {nobody : UniqueAddress} {u m : ℕ} {given : ℕ → ℕ} where
       → Kept nobody u given nowhere d.deeds (acknowledges_table kind v number d).node (acknowledges_table kind v number d).deeds
   acked_kept kind v number d f g = write_kept (control_dial v d.node) (Controls (table_ack kind d.node.me number)) d
       (λ k e live out h. acked_may nobody u k v d.node.me number d.node d.deeds.connections (journal d.deeds) kind (λ i c at t.
-          (let x = bound_ends nobody u k v given d.node d.deeds.connections (journal d.deeds) h e i c at t in
-          subst (λ (y : UniqueAddress). number ≤ of_kind kind (adopted_by y (name_by nobody c.far (journal d.deeds)) (journal d.deeds))) (sym x.0)
-          (subst (λ (y : UniqueAddress). number ≤ of_kind kind (adopted_by d.node.me y (journal d.deeds))) (sym x.1) (f live))))) g
+      (let x = bound_ends nobody u k v given d.node d.deeds.connections (journal d.deeds) h e i c at t in
+      subst (λ (y : UniqueAddress). number ≤ of_kind kind (adopted_by y (name_by nobody c.far (journal d.deeds)) (journal d.deeds))) (sym x.0)
+      (subst (λ (y : UniqueAddress). number ≤ of_kind kind (adopted_by d.node.me y (journal d.deeds))) (sym x.1) (f live))))) g
 
   -- it is adopted and told
   table_kept : (v : UniqueAddress) (kind : Kind) (number : ℕ) (keys : List (List ℕ)) (values : List ℕ) (d : Work u m) → (d.deeds.ended ≡ None → Announced d.deeds.connections v.uid d.node.me.uid kind number keys) → (d.deeds.ended ≡ None → values ≡ numbers_from 0 (length keys))

@@ -81,9 +81,10 @@ each_found (i ∷ is) least h = (ap (λ (c : Bool). cond c (Some i) (find (is_nu
 
     lift : (js : List (Inbound whole)) (l : ℕ) → i.number < l → Rises l (numbers_in js) → Each (λ (j : Inbound whole). find (is_number j.number) is ≡ Some j) js → Each (λ (j : Inbound whole). find (is_number j.number) (i ∷ is) ≡ Some j) js
     lift [] l a r e = tt
-    lift (j ∷ js) l a r e =
-        (ap (λ (c : Bool). cond c (Some i) (find (is_number j.number) is)) (apart j (let x : l ≤ j.number = r.0 in omega arith)) ∙ e.0,
-        lift js (j.number + 1) (let x : l ≤ j.number = r.0 in omega arith) r.1 e.1)
+    lift (j ∷ js) l a r e = (
+      ap (λ (c : Bool). cond c (Some i) (find (is_number j.number) is)) (apart j (let x : l ≤ j.number = r.0 in omega arith)) ∙ e.0,
+      lift js (j.number + 1) (let x : l ≤ j.number = r.0 in omega arith) r.1 e.1,
+    )
 
 -- ---- answers that are owed
 
@@ -94,18 +95,21 @@ answers_in (Some x) = answers_by x.for_uid x.nonce
 pub opened_later : (u : ℕ) (n k : Node whole) (cs ds : List Conn) → SameNode n k → Along Grown cs ds → (y : Answering) → IsOpened u n cs y → IsOpened u k ds y
 opened_later u n k cs ds s l y f = λ p c e t.
     (let b = l.back p c e in
-    let g = f p b.was b.is (sym (dialed_same y.uid y.dial b.was c b.so) ∙ t) in
-    (b.so.far ∙ g.0, λ i z. (let q = s.inbound c.number i z in
-        subst IsKnown (sym q.still.state) (g.1 q.was (sym (ap (λ (x : ℕ). inbound_at x n) b.so.number) ∙ q.is)))))
+    let g = f p b.was b.is (sym (dialed_same y.uid y.dial b.was c b.so) ∙ t) in (
+      b.so.far ∙ g.0,
+      λ i z. (let q = s.inbound c.number i z in
+          subst IsKnown (sym q.still.state) (g.1 q.was (sym (ap (λ (x : ℕ). inbound_at x n) b.so.number) ∙ q.is))),
+    ))
 
 -- the connection with this dialer and dial number is one that reaches the node, and that is known where it is there
 pub opened_at : (nobody : UniqueAddress) (u k : ℕ) (n : Node whole) (cs : List Conn) (ls : List Line) → Out nobody cs ls → n.me.uid ≡ u → (place : ℕ) (c : Conn) → slice_get cs place ≡ Some c → is_inward n.me.uid k c ≡ true
     → ((i : Inbound whole) → inbound_at k n ≡ Some i → IsKnown i.state) → IsOpened u n cs (record { uid = c.dialer; dial = c.dial })
 opened_at nobody u k n cs ls out is_u place c at inward known = λ p j e t.
     (let same : p ≡ place = out.dialed p place j c e at (eq_true j.dialer c.dialer (and_left (j.dialer == c.dialer) (j.dial == c.dial) t)) (eq_true j.dial c.dial (and_right (j.dialer == c.dialer) (j.dial == c.dial) t)) in
-    let is : j ≡ c = some_same (sym e ∙ ap (λ (x : ℕ). slice_get cs x) same ∙ at) in
-    (ap (λ (x : Conn). x.far) is ∙ eq_true c.far n.me.uid (and_left (c.far == n.me.uid) (c.number == k) inward) ∙ is_u,
-    λ i z. known i (sym (ap (λ (x : ℕ). inbound_at x n) (ap (λ (x : Conn). x.number) is ∙ eq_true c.number k (and_right (c.far == n.me.uid) (c.number == k) inward))) ∙ z)))
+    let is : j ≡ c = some_same (sym e ∙ ap (λ (x : ℕ). slice_get cs x) same ∙ at) in (
+      ap (λ (x : Conn). x.far) is ∙ eq_true c.far n.me.uid (and_left (c.far == n.me.uid) (c.number == k) inward) ∙ is_u,
+      λ i z. known i (sym (ap (λ (x : ℕ). inbound_at x n) (ap (λ (x : Conn). x.number) is ∙ eq_true c.number k (and_right (c.far == n.me.uid) (c.number == k) inward))) ∙ z),
+    ))
 
 module _ (nobody : UniqueAddress) (u : ℕ) (given : ℕ → ℕ) (n : Node whole) (cs : List Conn) (ls : List Line) (out : Out nobody cs ls) (h : NodeFacts nobody u given nowhere n cs ls) where
   owed_opened : (k : ℕ) (i : Inbound whole) → inbound_at k n ≡ Some i → Each (IsOpened u n cs) (answers_in i.owed)
@@ -142,8 +146,16 @@ origin_made v w now kind (o ∷ os) = by (is_origin w o) (origin_made v w now ki
     by false r = r
 
 origin_same : (v : UniqueAddress) (n : Node whole) → SameNode n (with_origin v n)
-origin_same v n = record { me = refl; numbers = refl; known = λ a. refl; tables = λ a. refl; control = λ a. Same refl; ordinary = λ a. Same refl; stories = λ w kind. origin_made v w n.moment kind n.origins;
-    inbound = λ x j e. record { was = j; is = e; still = record { state = refl; shown = refl; owed = Same refl } } }
+origin_same v n = record {
+  me = refl;
+  numbers = refl;
+  known = λ a. refl;
+  tables = λ a. refl;
+  control = λ a. Same refl;
+  ordinary = λ a. Same refl;
+  stories = λ w kind. origin_made v w n.moment kind n.origins;
+  inbound = λ x j e. record { was = j; is = e; still = record { state = refl; shown = refl; owed = Same refl } };
+}
 
 module _ {u m : ℕ} where
   pub owes_no_plain : (k : ℕ) → Plain u m (inbound_becomes k owes_no_answer)
@@ -190,7 +202,7 @@ module _ {nobody : UniqueAddress} {u m : ℕ} {given : ℕ → ℕ} where
           let p = (owes_no_plain {u = u} {m = m} i.number).on d in
           kept_then nobody u given nowhere d.deeds d1.deeds (writes_answer dial i.owed d1).deeds d1.node (writes_answer dial i.owed d1).node k
           (writes_answer_kept dial i.owed d1 (λ live. each_weaker (IsOpened u d.node d.deeds.connections) (IsOpened u d1.node d1.deeds.connections)
-              (λ y q. opened_later u d.node d1.node d.deeds.connections d1.deeds.connections p.node (along_grown u d.deeds.connections d1.deeds.connections p.steps) y q) (answers_in i.owed) (f live)) k.good)
+          (λ y q. opened_later u d.node d1.node d.deeds.connections d1.deeds.connections p.node (along_grown u d.deeds.connections d1.deeds.connections p.steps) y q) (answers_in i.owed) (f live)) k.good)
 
   all_answered : (a : Address) (dial : ℕ) (is : List (Inbound whole)) (d : Work u m) → (d.deeds.ended ≡ None → Each (λ (i : Inbound whole). Each (IsOpened u d.node d.deeds.connections) (answers_in i.owed)) is) → Good nobody u given nowhere d.node d.deeds
       → Kept nobody u given nowhere d.deeds (each is (λ i. answers_owed a dial i i.state) d).node (each is (λ i. answers_owed a dial i i.state) d).deeds
@@ -200,7 +212,7 @@ module _ {nobody : UniqueAddress} {u m : ℕ} {given : ℕ → ℕ} where
       let k : Kept nobody u given nowhere d.deeds d1.node d1.deeds = owed_kept a dial i i.state d (λ live. (f live).0) g in
       kept_then nobody u given nowhere d.deeds d1.deeds (each is (λ j. answers_owed a dial j j.state) d1).deeds d1.node (each is (λ j. answers_owed a dial j j.state) d1).node k
       (all_answered a dial is d1 (λ live. each_weaker _ _ (λ (j : Inbound whole) q. each_weaker (IsOpened u d.node d.deeds.connections) (IsOpened u d1.node d1.deeds.connections)
-          (λ y z. opened_later u d.node d1.node d.deeds.connections d1.deeds.connections (owed_same a dial i i.state d) (along_grown u d.deeds.connections d1.deeds.connections k.later.conns) y z) (answers_in j.owed) q) is (f (k.later.going live)).1) k.good)
+      (λ y z. opened_later u d.node d1.node d.deeds.connections d1.deeds.connections (owed_same a dial i i.state d) (along_grown u d.deeds.connections d1.deeds.connections k.later.conns) y z) (answers_in j.owed) q) is (f (k.later.going live)).1) k.good)
 
   answers_all_keeps : (a : Address) (dial : ℕ) → Keeps nobody u m given (answers_all a dial)
   answers_all_keeps a dial = record { on = λ d g. all_answered a dial d.node.inbound d (λ live. all_opened nobody u given d.node d.deeds.connections (journal d.deeds) (g.out live) (g.node live)) g }
@@ -269,8 +281,8 @@ asked_there : (nobody : UniqueAddress) (u k : ℕ) (v : UniqueAddress) (its_nonc
     → (y : Heard nobody n.me given (stories_of n) cs ls k i) → a.conn ≡ y.conn
 asked_there nobody u k v its_nonce n given cs ls i out is_u a y =
     let same : a.place ≡ y.place = out.reached a.place y.place a.conn y.conn a.is y.is
-        (eq_true a.conn.far u (and_left (a.conn.far == u) (a.conn.number == k) a.inward) ∙ sym is_u ∙ sym (eq_true y.conn.far n.me.uid (and_left (y.conn.far == n.me.uid) (y.conn.number == k) y.inward)))
-        (eq_true a.conn.number k (and_right (a.conn.far == u) (a.conn.number == k) a.inward) ∙ sym (eq_true y.conn.number k (and_right (y.conn.far == n.me.uid) (y.conn.number == k) y.inward))) in
+    (eq_true a.conn.far u (and_left (a.conn.far == u) (a.conn.number == k) a.inward) ∙ sym is_u ∙ sym (eq_true y.conn.far n.me.uid (and_left (y.conn.far == n.me.uid) (y.conn.number == k) y.inward)))
+    (eq_true a.conn.number k (and_right (a.conn.far == u) (a.conn.number == k) a.inward) ∙ sym (eq_true y.conn.number k (and_right (y.conn.far == n.me.uid) (y.conn.number == k) y.inward))) in
     some_same (sym a.is ∙ ap (λ (x : ℕ). slice_get cs x) same ∙ y.is)
 
 known_always : (v : UniqueAddress) (its_nonce : Option ℕ) (s : InState) → IsKnown (state_after_req v its_nonce s)
@@ -281,7 +293,7 @@ known_always v its_nonce (Known who n) = tt
 
 module _ (nobody : UniqueAddress) (u : ℕ) (given : ℕ → ℕ) (k : ℕ) (f : Inbound whole → Inbound whole) (s : (i : Inbound whole) → (f i).number ≡ i.number) (still : (i : Inbound whole) → IsKnown i.state → IsKnown (f i).state) where
   pub inbound_good : (n : Node whole) (w : Network) → (w.ended ≡ None → (i : Inbound whole) → inbound_at k n ≡ Some i → (y : Heard nobody n.me (given k) (stories_of n) w.connections (journal w) k i)
-          → InFacts n.me (name_by nobody y.conn.dialer (journal w)) (given k) (stories_of n (name_by nobody y.conn.dialer (journal w))) (journal w) (f i) y.conn)
+      → InFacts n.me (name_by nobody y.conn.dialer (journal w)) (given k) (stories_of n (name_by nobody y.conn.dialer (journal w))) (journal w) (f i) y.conn)
       → Good nobody u given nowhere n w → Good nobody u given nowhere (record n { inbound = change_first (is_number k) f n.inbound }) w
   inbound_good n w t g = record {
     lawful = g.lawful;
@@ -306,8 +318,13 @@ module _ (nobody : UniqueAddress) (u : ℕ) (given : ℕ → ℕ) (k : ℕ) (f :
           let at_k : inbound_at k n ≡ Some i = ap (λ (z : ℕ). inbound_at z n) (sym p) ∙ at in
           let y : Heard nobody n.me (given k) (stories_of n) w.connections (journal w) k i = h.inbound k i at_k in
           let P : ℕ → Type 0 = λ z. Heard nobody n.me (given z) (stories_of n) w.connections (journal w) z j in
-          subst P (sym p) (record { place = y.place; conn = y.conn; is = y.is; inward = y.inward;
-              facts = subst (λ (z : Inbound whole). InFacts n.me (name_by nobody y.conn.dialer (journal w)) (given k) (stories_of n (name_by nobody y.conn.dialer (journal w))) (journal w) z y.conn) (sym q) (t e i at_k y) })
+          subst P (sym p) (record {
+            place = y.place;
+            conn = y.conn;
+            is = y.is;
+            inward = y.inward;
+            facts = subst (λ (z : Inbound whole). InFacts n.me (name_by nobody y.conn.dialer (journal w)) (given k) (stories_of n (name_by nobody y.conn.dialer (journal w))) (journal w) z y.conn) (sym q) (t e i at_k y);
+          })
 
       known : (x : ℕ) (i : Inbound whole) → ((j : Inbound whole) → inbound_at x n ≡ Some j → IsKnown j.state) → Changed x k f n.inbound i → IsKnown i.state
       known x i q (Other p at) = q i at
@@ -380,7 +397,14 @@ module _ {nobody : UniqueAddress} {u m : ℕ} {given : ℕ → ℕ} where
       owing_it : Kept nobody u given nowhere w (inbound_becomes k (owing (answer_to v its_nonce)) d).node w
       owing_it = record {
         good = inbound_good nobody u given k (owing (answer_to v its_nonce)) (λ i. refl) (λ i q. q) d.node w (λ e i at y. record {
-          had = y.facts.had; begun = y.facts.begun; state = y.facts.state; owed = owed e i at y; got = y.facts.got; fits = y.facts.fits; shown = y.facts.shown }) g;
+          had = y.facts.had;
+          begun = y.facts.begun;
+          state = y.facts.state;
+          owed = owed e i at y;
+          got = y.facts.got;
+          fits = y.facts.fits;
+          shown = y.facts.shown;
+        }) g;
         later = later_self nobody u w;
       }
 
@@ -392,8 +416,8 @@ module _ {nobody : UniqueAddress} {u m : ℕ} {given : ℕ → ℕ} where
           let p = (owes_no_plain {u = u} {m = m} k).on d in
           kept_then nobody u given nowhere d.deeds d1.deeds (writes_answer dial (Some (answer_to v its_nonce)) d1).deeds d1.node (writes_answer dial (Some (answer_to v its_nonce)) d1).node q
           (writes_answer_kept dial (Some (answer_to v its_nonce)) d1 (λ e. each_weaker (IsOpened u d.node w.connections) (IsOpened u d1.node w.connections)
-              (λ y z. opened_later u d.node d1.node w.connections w.connections p.node (along_grown u w.connections w.connections p.steps) y z) (answers_in (Some (answer_to v its_nonce)))
-              (asked_opened nobody u k v its_nonce d.node w (a e) (g.out e) (g.node e).uid known)) q.good)
+          (λ y z. opened_later u d.node d1.node w.connections w.connections p.node (along_grown u w.connections w.connections p.steps) y z) (answers_in (Some (answer_to v its_nonce)))
+          (asked_opened nobody u k v its_nonce d.node w (a e) (g.out e) (g.node e).uid known)) q.good)
 
   is_asked_keeps : (k : ℕ) (v : UniqueAddress) (its_nonce : Option ℕ) → 1 ≤ given k → KeepsIf nobody u m given (asking nobody u k v its_nonce) (is_asked k v its_nonce)
   is_asked_keeps k v its_nonce some = record { on = λ d h g. asked d h g }
@@ -413,7 +437,7 @@ module _ {nobody : UniqueAddress} {u m : ℕ} {given : ℕ → ℕ} where
           let k3 : Kept nobody u given nowhere d2.deeds d3.node d3.deeds = (plain_keeps (makes_origin v) (makes_origin_plain v)).on d2 g2 in
           let p3 = (makes_origin_plain {u = u} {m = m} v).on d2 in
           let known : (j : Inbound whole) → inbound_at k d3.node ≡ Some j → IsKnown j.state = λ j e. (let y = p3.node.inbound k j e in
-              subst IsKnown (sym y.still.state) (known_then d1.node y.was (found_changed k k (known_as v its_nonce) (λ i. refl) d1.node.inbound y.was y.is))) in
+          subst IsKnown (sym y.still.state) (known_then d1.node y.was (found_changed k k (known_as v its_nonce) (λ i. refl) d1.node.inbound y.was y.is))) in
           let k4 : Kept nobody u given nowhere d3.deeds (answers k v its_nonce d3).node (answers k v its_nonce d3).deeds = answers_kept k v its_nonce d3 ((asking nobody u k v its_nonce).stays d2.deeds d3.deeds k3.later h1) known k3.good in
           kept_then nobody u given nowhere d.deeds d1.deeds (answers k v its_nonce d3).deeds d1.node (answers k v its_nonce d3).node k1
           (kept_then nobody u given nowhere d1.deeds d3.deeds (answers k v its_nonce d3).deeds d3.node (answers k v its_nonce d3).node k3 k4)

@@ -161,12 +161,13 @@ module _ {nobody : UniqueAddress} {u : ℕ} {given : ℕ → ℕ} where
   learnt_live : (v : UniqueAddress) (now : ℕ) (n : Node whole) (w : Network) → (peer_at v.address n).incarnations.current ≡ None → Good nobody u given nowhere n w
       → Good nobody u given nowhere (record n { peers = change_first (is_peer v.address) (with_learnt now v.uid) n.peers }) w
   learnt_live v now n w none g = peers_change nobody u given nowhere nowhere n v.address (with_learnt now v.uid) w g (λ h b. (
-      on_changed v.address b (with_learnt now v.uid) (λ p. learnt_address v.uid p.incarnations) (PeerFacts nobody n.me w.connections (journal w) b) n.peers
-          (λ e p f. (let l = facts h b e p f in let was = there h b e p f in record { alive = l.alive; unspoken = l.unspoken; control = was.control; ordinary = was.ordinary }))
-          (λ e f. missing h b e f) (λ t. h.peers b),
-      λ t. on_changed v.address b (with_learnt now v.uid) (λ p. learnt_address v.uid p.incarnations) (λ q. AreHeld w.connections n.me b (journal w) q.tables q.incarnations.current) n.peers
-          (λ e p f. (facts h b e p f).tables) (λ e f. refl) (λ s. h.tables b refl),
-      λ t. not_both t refl))
+    on_changed v.address b (with_learnt now v.uid) (λ p. learnt_address v.uid p.incarnations) (PeerFacts nobody n.me w.connections (journal w) b) n.peers
+        (λ e p f. (let l = facts h b e p f in let was = there h b e p f in record { alive = l.alive; unspoken = l.unspoken; control = was.control; ordinary = was.ordinary }))
+        (λ e f. missing h b e f) (λ t. h.peers b),
+    λ t. on_changed v.address b (with_learnt now v.uid) (λ p. learnt_address v.uid p.incarnations) (λ q. AreHeld w.connections n.me b (journal w) q.tables q.incarnations.current) n.peers
+        (λ e p f. (facts h b e p f).tables) (λ e f. refl) (λ s. h.tables b refl),
+    λ t. not_both t refl,
+  ))
     where
       is_it : (p : Peer whole) → find (is_peer v.address) n.peers ≡ Some p → peer_at v.address n ≡ p
       is_it p f = ap (or_else (new_peer v.address)) f
@@ -181,7 +182,7 @@ module _ {nobody : UniqueAddress} {u : ℕ} {given : ℕ → ℕ} where
       facts h b e p f =
           let now_none : p.incarnations.current ≡ None = sym (ap (λ (q : Peer whole). q.incarnations.current) (is_it p f)) ∙ none in
           let held : AreHeld w.connections n.me b (journal w) p.tables p.incarnations.current = subst (λ (x : Address). AreHeld w.connections n.me x (journal w) p.tables p.incarnations.current) (sym e)
-              (subst (λ (q : Peer whole). AreHeld w.connections n.me v.address (journal w) q.tables q.incarnations.current) (is_it p f) (h.tables v.address refl)) in
+          (subst (λ (q : Peer whole). AreHeld w.connections n.me v.address (journal w) q.tables q.incarnations.current) (is_it p f) (h.tables v.address refl)) in
           learns_facts nobody n.me w.connections (journal w) b v.uid p now_none (there h b e p f) held
 
   learnt_good : (v : UniqueAddress) (now : ℕ) (n : Node whole) (w : Network) → (w.ended ≡ None → (peer_at v.address n).incarnations.current ≡ None) → Good nobody u given nowhere n w
@@ -369,17 +370,18 @@ module _ {nobody : UniqueAddress} {u : ℕ} {given : ℕ → ℕ} where
   bound_live : (stream : Stream) (v : UniqueAddress) (for_uid its_nonce : Option ℕ) (n : Node whole) (w : Network) → Meant nobody u v for_uid its_nonce w.connections (journal w) → Good nobody u given nowhere n w
       → Good nobody u given nowhere (record n { peers = change_first (is_peer v.address) (with_link stream (change_conn (conn_answered n.me.uid v.uid for_uid its_nonce))) n.peers }) w
   bound_live stream v for_uid its_nonce n w meant g = peers_change nobody u given nowhere nowhere n v.address (with_link stream f) w g (λ h b. (
-      on_changed v.address b (with_link stream f) (link_address stream f) (PeerFacts nobody n.me w.connections (journal w) b) n.peers
-          (λ e p q. subst (λ (x : Address). PeerFacts nobody n.me w.connections (journal w) x (with_link stream f p)) (sym e)
-              (linked_facts nobody n.me w.connections (journal w) v.address stream f p (λ l k. answered_bound nobody n.me u w.connections (journal w) v for_uid its_nonce h.uid meant l k) (subst (PeerFacts nobody n.me w.connections (journal w) v.address) (is_it p q) (h.peers v.address))))
-          (λ e q. subst (PeerFacts nobody n.me w.connections (journal w) b) (subst (λ (x : Address). peer_at x n ≡ new_peer x) (sym e) (ap (or_else (new_peer v.address)) q)) (h.peers b)) (λ t. h.peers b),
-      λ t. on_changed v.address b (with_link stream f) (link_address stream f) (λ q. AreHeld w.connections n.me b (journal w) q.tables q.incarnations.current) n.peers
-          (λ e p q. subst (λ (x : OfKinds whole.Adopted). AreHeld w.connections n.me b (journal w) x (with_link stream f p).incarnations.current) (sym (link_tables stream f p))
-              (subst (λ (x : PeerState). AreHeld w.connections n.me b (journal w) p.tables x.current) (sym (link_current stream f p))
-              (subst (λ (x : Address). AreHeld w.connections n.me x (journal w) p.tables p.incarnations.current) (sym e)
-              (subst (λ (x : Peer whole). AreHeld w.connections n.me v.address (journal w) x.tables x.incarnations.current) (is_it p q) (h.tables v.address refl)))))
-          (λ e q. refl) (λ s. h.tables b refl),
-      λ t. not_both t refl))
+    on_changed v.address b (with_link stream f) (link_address stream f) (PeerFacts nobody n.me w.connections (journal w) b) n.peers
+        (λ e p q. subst (λ (x : Address). PeerFacts nobody n.me w.connections (journal w) x (with_link stream f p)) (sym e)
+        (linked_facts nobody n.me w.connections (journal w) v.address stream f p (λ l k. answered_bound nobody n.me u w.connections (journal w) v for_uid its_nonce h.uid meant l k) (subst (PeerFacts nobody n.me w.connections (journal w) v.address) (is_it p q) (h.peers v.address))))
+        (λ e q. subst (PeerFacts nobody n.me w.connections (journal w) b) (subst (λ (x : Address). peer_at x n ≡ new_peer x) (sym e) (ap (or_else (new_peer v.address)) q)) (h.peers b)) (λ t. h.peers b),
+    λ t. on_changed v.address b (with_link stream f) (link_address stream f) (λ q. AreHeld w.connections n.me b (journal w) q.tables q.incarnations.current) n.peers
+        (λ e p q. subst (λ (x : OfKinds whole.Adopted). AreHeld w.connections n.me b (journal w) x (with_link stream f p).incarnations.current) (sym (link_tables stream f p))
+        (subst (λ (x : PeerState). AreHeld w.connections n.me b (journal w) p.tables x.current) (sym (link_current stream f p))
+        (subst (λ (x : Address). AreHeld w.connections n.me x (journal w) p.tables p.incarnations.current) (sym e)
+        (subst (λ (x : Peer whole). AreHeld w.connections n.me v.address (journal w) x.tables x.incarnations.current) (is_it p q) (h.tables v.address refl)))))
+        (λ e q. refl) (λ s. h.tables b refl),
+    λ t. not_both t refl,
+  ))
     where
       f : Link → Link
       f = change_conn (conn_answered n.me.uid v.uid for_uid its_nonce)
@@ -410,7 +412,7 @@ module _ {nobody : UniqueAddress} {u m : ℕ} {given : ℕ → ℕ} where
       speaks : (dial : ℕ) → Ordinary v dial (peer_at v.address d.node) → Speaks (peer_at v.address d1.node) dial v.uid
       speaks dial o = on_changed v.address v.address without_held (λ p. refl) (λ p. Speaks p dial v.uid) d.node.peers
           (λ e p q. (let is : peer_at v.address d.node ≡ p = ap (or_else (new_peer v.address)) q in
-              record { current = ap (λ (x : Peer whole). current_of x) (sym is) ∙ o.current; bound = ap (λ (x : Peer whole). bound_in x.ordinary.conn) (sym is) ∙ b dial o.dialed }))
+          record { current = ap (λ (x : Peer whole). current_of x) (sym is) ∙ o.current; bound = ap (λ (x : Peer whole). bound_in x.ordinary.conn) (sym is) ∙ b dial o.dialed }))
           (λ e q. not_some (sym (ap (λ (x : Option (Peer whole)). current_of (or_else (new_peer {P = whole} v.address) x)) q) ∙ o.current)) (λ t. not_both (address_self v.address) t)
 
       by : (x : Option ℕ) → ordinary_dial v (peer_at v.address d.node) ≡ x → Kept nobody u given nowhere d.deeds (binds_ordinary v its_nonce x d).node (binds_ordinary v its_nonce x d).deeds
@@ -426,8 +428,8 @@ module _ {nobody : UniqueAddress} {u m : ℕ} {given : ℕ → ℕ} where
       (peer_becomes v.address (with_link streams.Control (change_conn (conn_answered d.node.me.uid v.uid for_uid its_nonce))) d) (bound_good streams.Control v for_uid its_nonce d.node d.deeds h g)
   bind_kept streams.Ordinary v for_uid its_nonce uid d e h g =
       held_kept v its_nonce d1 (λ dial. on_changed v.address v.address (with_link streams.Ordinary f) (λ p. refl) (λ p. dial_of p.ordinary.conn ≡ Some dial → bound_in p.ordinary.conn ≡ Some (dial, v.uid)) d.node.peers
-          (λ s p q r. bind_speaks d.node.me.uid v for_uid its_nonce uid dial p.ordinary (sym (ap (λ (x : Option (Peer whole)). answer_on d.node.me.uid v for_uid its_nonce (or_else (new_peer {P = whole} v.address) x).ordinary.conn) q) ∙ e) r)
-          (λ s q r. not_some r) (λ t. not_both (address_self v.address) t))
+      (λ s p q r. bind_speaks d.node.me.uid v for_uid its_nonce uid dial p.ordinary (sym (ap (λ (x : Option (Peer whole)). answer_on d.node.me.uid v for_uid its_nonce (or_else (new_peer {P = whole} v.address) x).ordinary.conn) q) ∙ e) r)
+      (λ s q r. not_some r) (λ t. not_both (address_self v.address) t))
       (bound_good streams.Ordinary v for_uid its_nonce d.node d.deeds h g)
     where
       f : Link → Link

@@ -73,9 +73,9 @@ module _ (nobody : UniqueAddress) (u : ℕ) (given : ℕ → ℕ) where
   -- the facts of peers and tables change, and nothing else
   pub peers_change : (away after : Address → Bool) (n : Node whole) (a : Address) (g : Peer whole → Peer whole) (w : Network) → Good nobody u given away n w
       → (NodeFacts nobody u given away n w.connections (journal w) → (b : Address) →
-          PeerFacts nobody n.me w.connections (journal w) b (or_else (new_peer b) (find (is_peer b) (change_first (is_peer a) g n.peers)))
-          × (after b ≡ false → AreHeld w.connections n.me b (journal w) (or_else (new_peer b) (find (is_peer b) (change_first (is_peer a) g n.peers))).tables (or_else (new_peer b) (find (is_peer b) (change_first (is_peer a) g n.peers))).incarnations.current)
-          × (after b ≡ true → (or_else (new_peer b) (find (is_peer b) (change_first (is_peer a) g n.peers))).incarnations.current ≡ None))
+      PeerFacts nobody n.me w.connections (journal w) b (or_else (new_peer b) (find (is_peer b) (change_first (is_peer a) g n.peers)))
+      × (after b ≡ false → AreHeld w.connections n.me b (journal w) (or_else (new_peer b) (find (is_peer b) (change_first (is_peer a) g n.peers))).tables (or_else (new_peer b) (find (is_peer b) (change_first (is_peer a) g n.peers))).incarnations.current)
+      × (after b ≡ true → (or_else (new_peer b) (find (is_peer b) (change_first (is_peer a) g n.peers))).incarnations.current ≡ None))
       → Good nobody u given after (record n { peers = change_first (is_peer a) g n.peers }) w
   peers_change away after n a g w h f = record {
     lawful = h.lawful;
@@ -99,13 +99,14 @@ module _ (nobody : UniqueAddress) (u : ℕ) (given : ℕ → ℕ) where
 
   shut_good : (a : Address) (uid : ℕ) (n : Node whole) (w : Network) → current_of (peer_at a n) ≡ Some uid → Good nobody u given nowhere n w
       → Good nobody u given (at a) (record n { peers = change_first (is_peer a) (with_closed uid) n.peers }) w
-  shut_good a uid n w c h = peers_change nowhere (at a) n a (with_closed uid) w h (λ k b.
-      (on_changed a b (with_closed uid) (λ p. close_address uid p.incarnations) (PeerFacts nobody n.me w.connections (journal w) b) n.peers
-          (λ e p f. shut_peer k b e p f) (λ e f. absurd (nobody_there n.me w.connections (journal w) a n f uid c)) (λ t. k.peers b),
-      λ t. on_changed a b (with_closed uid) (λ p. close_address uid p.incarnations) (λ q. AreHeld w.connections n.me b (journal w) q.tables q.incarnations.current) n.peers
-          (λ e p f. not_both (subst (λ (x : Address). same_address a x ≡ true) (sym e) (address_self a)) t) (λ e f. absurd (nobody_there n.me w.connections (journal w) a n f uid c)) (λ s. k.tables b refl),
-      λ t. on_changed a b (with_closed uid) (λ p. close_address uid p.incarnations) (λ q. q.incarnations.current ≡ None) n.peers
-          (λ e p f. ap (λ (i : PeerState). i.current) (shut_state k b e p f)) (λ e f. refl) (λ s. not_both t s)))
+  shut_good a uid n w c h = peers_change nowhere (at a) n a (with_closed uid) w h (λ k b. (
+    on_changed a b (with_closed uid) (λ p. close_address uid p.incarnations) (PeerFacts nobody n.me w.connections (journal w) b) n.peers
+        (λ e p f. shut_peer k b e p f) (λ e f. absurd (nobody_there n.me w.connections (journal w) a n f uid c)) (λ t. k.peers b),
+    λ t. on_changed a b (with_closed uid) (λ p. close_address uid p.incarnations) (λ q. AreHeld w.connections n.me b (journal w) q.tables q.incarnations.current) n.peers
+        (λ e p f. not_both (subst (λ (x : Address). same_address a x ≡ true) (sym e) (address_self a)) t) (λ e f. absurd (nobody_there n.me w.connections (journal w) a n f uid c)) (λ s. k.tables b refl),
+    λ t. on_changed a b (with_closed uid) (λ p. close_address uid p.incarnations) (λ q. q.incarnations.current ≡ None) n.peers
+        (λ e p f. ap (λ (i : PeerState). i.current) (shut_state k b e p f)) (λ e f. refl) (λ s. not_both t s),
+  ))
     where
       peer_is : (p : Peer whole) → find (is_peer a) n.peers ≡ Some p → peer_at a n ≡ p
       peer_is p f = ap (or_else (new_peer a)) f
@@ -131,16 +132,17 @@ module _ (nobody : UniqueAddress) (u : ℕ) (given : ℕ → ℕ) where
           }
 
   new_tables_good : (a : Address) (n : Node whole) (w : Network) → Good nobody u given (at a) n w → Good nobody u given nowhere (record n { peers = change_first (is_peer a) with_new_tables n.peers }) w
-  new_tables_good a n w h = peers_change (at a) nowhere n a with_new_tables w h (λ k b.
-      (on_changed a b with_new_tables (λ p. refl) (PeerFacts nobody n.me w.connections (journal w) b) n.peers
-          (λ e p f. (let was : PeerFacts nobody n.me w.connections (journal w) b p = subst (λ (x : Address). PeerFacts nobody n.me w.connections (journal w) x p) (sym e) (subst (PeerFacts nobody n.me w.connections (journal w) a) (ap (or_else (new_peer a)) f) (k.peers a)) in
-              record { alive = was.alive; unspoken = was.unspoken; control = was.control; ordinary = was.ordinary }))
-          (λ e f. subst (PeerFacts nobody n.me w.connections (journal w) b) (subst (λ (x : Address). peer_at x n ≡ new_peer x) (sym e) (ap (or_else (new_peer a)) f)) (k.peers b)) (λ t. k.peers b),
-      λ t. on_changed a b with_new_tables (λ p. refl) (λ q. AreHeld w.connections n.me b (journal w) q.tables q.incarnations.current) n.peers
-          (λ e p f. (let none : p.incarnations.current ≡ None = sym (ap (λ (x : Option (Peer whole)). (or_else (new_peer a) x).incarnations.current) f) ∙ k.gone a (address_self a) in
-              subst (AreHeld w.connections n.me b (journal w) (of_each whole.nothing_adopted)) (sym none) refl))
-          (λ e f. refl) (λ s. k.tables b s),
-      λ t. not_both t refl))
+  new_tables_good a n w h = peers_change (at a) nowhere n a with_new_tables w h (λ k b. (
+    on_changed a b with_new_tables (λ p. refl) (PeerFacts nobody n.me w.connections (journal w) b) n.peers
+        (λ e p f. (let was : PeerFacts nobody n.me w.connections (journal w) b p = subst (λ (x : Address). PeerFacts nobody n.me w.connections (journal w) x p) (sym e) (subst (PeerFacts nobody n.me w.connections (journal w) a) (ap (or_else (new_peer a)) f) (k.peers a)) in
+        record { alive = was.alive; unspoken = was.unspoken; control = was.control; ordinary = was.ordinary }))
+        (λ e f. subst (PeerFacts nobody n.me w.connections (journal w) b) (subst (λ (x : Address). peer_at x n ≡ new_peer x) (sym e) (ap (or_else (new_peer a)) f)) (k.peers b)) (λ t. k.peers b),
+    λ t. on_changed a b with_new_tables (λ p. refl) (λ q. AreHeld w.connections n.me b (journal w) q.tables q.incarnations.current) n.peers
+        (λ e p f. (let none : p.incarnations.current ≡ None = sym (ap (λ (x : Option (Peer whole)). (or_else (new_peer a) x).incarnations.current) f) ∙ k.gone a (address_self a) in
+        subst (AreHeld w.connections n.me b (journal w) (of_each whole.nothing_adopted)) (sym none) refl))
+        (λ e f. refl) (λ s. k.tables b s),
+    λ t. not_both t refl,
+  ))
 
 -- ---- the whole
 
@@ -184,8 +186,8 @@ module _ {u m : ℕ} where
       shut : (or_else (new_peer {P = whole} a) (find (is_peer a) (change_first (is_peer a) (with_closed uid) d.node.peers))).incarnations ≡ record (peer_at a d.node).incarnations { current = None; closed = (peer_at a d.node).incarnations.closed ++ uid ∷ [] }
       shut = on_changed a a (with_closed uid) (λ p. close_address uid p.incarnations) (λ (q : Peer whole). q.incarnations ≡ record (peer_at a d.node).incarnations { current = None; closed = (peer_at a d.node).incarnations.closed ++ uid ∷ [] }) d.node.peers
           (λ s p t. (let is : peer_at a d.node ≡ p = ap (or_else (new_peer a)) t in
-              subst (λ (q : Peer whole). peer_closed uid p.incarnations ≡ record q.incarnations { current = None; closed = q.incarnations.closed ++ uid ∷ [] }) (sym is)
-              (closed_state uid p.incarnations (sym (ap (λ (q : Peer whole). q.incarnations.current) is) ∙ c) (sym (ap (λ (q : Peer whole). is_closed uid q.incarnations) is) ∙ alive))))
+          subst (λ (q : Peer whole). peer_closed uid p.incarnations ≡ record q.incarnations { current = None; closed = q.incarnations.closed ++ uid ∷ [] }) (sym is)
+          (closed_state uid p.incarnations (sym (ap (λ (q : Peer whole). q.incarnations.current) is) ∙ c) (sym (ap (λ (q : Peer whole). is_closed uid q.incarnations) is) ∙ alive))))
           (λ s t. absurd (not_some (sym (ap (λ x. current_of (or_else (new_peer {P = whole} a) x)) t) ∙ c)))
           (λ t. not_both (address_self a) t)
 

@@ -207,18 +207,18 @@ given_good nobody u given k g n w f good = record {
     heard : w.ended ≡ None → NodeFacts nobody u given nowhere n w.connections (journal w) → (j : ℕ) (i : Inbound whole) → inbound_at j n ≡ Some i → Heard nobody n.me (then_given given k g j) (stories_of n) w.connections (journal w) j i
     heard e h j i at = by_test (j == k)
         (λ t. (let same : k ≡ j = sym (eq_true j k t) in
-            let at_k : inbound_at k n ≡ Some i = ap (λ (z : ℕ). inbound_at z n) same ∙ at in
-            let y : Heard nobody n.me (given k) (stories_of n) w.connections (journal w) k i = h.inbound k i at_k in
-            let l = f e i at_k y in
-            let new : Heard nobody n.me g (stories_of n) w.connections (journal w) k i = record { place = y.place; conn = y.conn; is = y.is; inward = y.inward; facts = given_in _ _ (given k) g _ (journal w) i y.conn l.0 l.1 y.facts } in
-            subst (λ (b : Bool). Heard nobody n.me (cond b g (given j)) (stories_of n) w.connections (journal w) j i) (sym t) (subst (λ (z : ℕ). Heard nobody n.me g (stories_of n) w.connections (journal w) z i) same new)))
+        let at_k : inbound_at k n ≡ Some i = ap (λ (z : ℕ). inbound_at z n) same ∙ at in
+        let y : Heard nobody n.me (given k) (stories_of n) w.connections (journal w) k i = h.inbound k i at_k in
+        let l = f e i at_k y in
+        let new : Heard nobody n.me g (stories_of n) w.connections (journal w) k i = record { place = y.place; conn = y.conn; is = y.is; inward = y.inward; facts = given_in _ _ (given k) g _ (journal w) i y.conn l.0 l.1 y.facts } in
+        subst (λ (b : Bool). Heard nobody n.me (cond b g (given j)) (stories_of n) w.connections (journal w) j i) (sym t) (subst (λ (z : ℕ). Heard nobody n.me g (stories_of n) w.connections (journal w) z i) same new)))
         (λ t. subst (λ (b : Bool). Heard nobody n.me (cond b g (given j)) (stories_of n) w.connections (journal w) j i) (sym t) (h.inbound j i at))
 
 -- one connection has this number at the node
 pub one_inward : (nobody : UniqueAddress) (cs : List Conn) (ls : List Line) → Out nobody cs ls → (u k i j : ℕ) (c d : Conn) → slice_get cs i ≡ Some c → slice_get cs j ≡ Some d → is_inward u k c ≡ true → is_inward u k d ≡ true → c ≡ d
 one_inward nobody cs ls out u k i j c d e f p q =
     let same : i ≡ j = out.reached i j c d e f (eq_true c.far u (and_left (c.far == u) (c.number == k) p) ∙ sym (eq_true d.far u (and_left (d.far == u) (d.number == k) q)))
-        (eq_true c.number k (and_right (c.far == u) (c.number == k) p) ∙ sym (eq_true d.number k (and_right (d.far == u) (d.number == k) q))) in
+    (eq_true c.number k (and_right (c.far == u) (c.number == k) p) ∙ sym (eq_true d.number k (and_right (d.far == u) (d.number == k) q))) in
     some_same (sym e ∙ ap (λ (x : ℕ). slice_get cs x) same ∙ f)
 
 -- A frame comes: it was written at a place on the connection that reaches the node under this number, and no ordinary message between those that were given and it.

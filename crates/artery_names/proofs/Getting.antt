@@ -82,9 +82,10 @@ said_from (w ∷ ws) zero x e h k =
     let is : w.writing ≡ Sends e = ap (λ (z : Wrote). z.writing) (some_same h) ∙ k in
     (ap (λ (z : Writing). slice_get (sends_said z ++ all_said sends_said ws) 0) is, ap (λ (z : Writing). length (sends_said z ++ [])) is)
 said_from (w ∷ ws) (suc p) x e h k =
-    let r = said_from ws p x e h k in
-    (behind (sends_said w.writing) (all_said sends_said ws) (all_said sends_said (take p ws)) r.0,
-    longer (sends_said w.writing) (all_said sends_said (take (suc p) ws)) (all_said sends_said (take p ws)) r.1)
+    let r = said_from ws p x e h k in (
+      behind (sends_said w.writing) (all_said sends_said ws) (all_said sends_said (take p ws)) r.0,
+      longer (sends_said w.writing) (all_said sends_said (take (suc p) ws)) (all_said sends_said (take p ws)) r.1,
+    )
   where
     behind : (xs ys zs : List EnvelopeOf) → slice_get ys (length zs) ≡ Some e → slice_get (xs ++ ys) (length (xs ++ zs)) ≡ Some e
     behind [] ys zs q = q
@@ -185,13 +186,13 @@ module _ (nobody : UniqueAddress) (u : ℕ) (given : ℕ → ℕ) (n : Node whol
           let spot = said_at c.conn.way.all p c.wrote e c.here o.sends in
           let sent : slice_get (sends_on c.conn) (sent_in (given k) c.conn) ≡ Some e = ap (λ (z : ℕ). slice_get (sends_on c.conn) z) (sym c.quiet) ∙ spot.0 in
           let told_is : AreWritten cs c.conn.dialer c.conn.far (sends_on c.conn) (told_by a n.me c.conn.dial ls) = subst (λ (z : UniqueAddress). AreWritten cs c.conn.dialer c.conn.far (sends_on c.conn) (told_by z n.me c.conn.dial ls)) name
-              (subst (λ (z : UniqueAddress). AreWritten cs c.conn.dialer c.conn.far (sends_on c.conn) (told_by (name_by nobody c.conn.dialer ls) z c.conn.dial ls)) far f.told) in
+          (subst (λ (z : UniqueAddress). AreWritten cs c.conn.dialer c.conn.far (sends_on c.conn) (told_by (name_by nobody c.conn.dialer ls) z c.conn.dial ls)) far f.told) in
           let t = written_at cs c.conn.dialer c.conn.far (sends_on c.conn) (told_by a n.me c.conn.dial ls) (sent_in (given k) c.conn) e told_is sent in
           let below : AtMost t.0.numbers (adopted_by a n.me ls) = each_get _ (told_by a n.me c.conn.dial ls) (sent_in (given k) c.conn) t.0 (out.talks a n.me c.conn.dial).below t.1 in
           let ordinary : carried c.conn.way.all ≡ Some streams.Control → ⊥ = λ q. o.apart (c.carries ∙ q) in
           let fits : (kind : Kind) → Fits (length (story_of kind a n).tables) (of_kind kind t.0.numbers) = λ kind. drop_next (λ (z : Told). Fits (length (story_of kind a n).tables) (of_kind kind z.numbers)) (told_by a n.me c.conn.dial ls) (sent_in (given k) c.conn) t.0 t.1 (facts.fits ordinary kind) in
           let within : (kind : Kind) → of_kind kind t.0.numbers ≤ length (story_of kind a n).tables = λ kind. (let x : of_kind kind t.0.numbers ≤ of_kind kind (adopted_by a n.me ls) = below kind in
-              let z : of_kind kind (adopted_by a n.me ls) ≤ length (story_of kind a n).tables = adopted_within nobody u given nowhere n cs ls h a kind named (out.adopts a n.me kind) in omega arith) in
+          let z : of_kind kind (adopted_by a n.me ls) ≤ length (story_of kind a n).tables = adopted_within nobody u given nowhere n cs ls h a kind named (out.adopts a n.me kind) in omega arith) in
           let reads : (kind : Kind) → Reads cs c.conn.dialer c.conn.far kind (of_kind kind t.0.numbers) (story_of kind a n) = λ kind. record {
             story = (h.origins a kind).story;
             within = within kind;
@@ -256,7 +257,7 @@ module _ (nobody : UniqueAddress) (u m : ℕ) (given : ℕ → ℕ) (k : ℕ) (m
       by None e = refl
       by (Some x) e = by_test (is_nonce b a d ((me, v), Some x))
           (λ t. absurd (n (same_is b me (and_left (same b me) (same a v) (and_left (same b me && same a v) (d == x) t))) (same_is a v (and_right (same b me) (same a v) (and_left (same b me && same a v) (d == x) t)))
-              (e ∙ ap Some (sym (eq_true d x (and_right (same b me && same a v) (d == x) t))))))
+          (e ∙ ap Some (sym (eq_true d x (and_right (same b me && same a v) (d == x) t))))))
           (λ t. ap (λ (c : Bool). cond c (got_by a b d ls ++ message ∷ []) (got_by a b d ls)) t)
 
   got_live : (n : Node whole) (w : Network) → n.me ≡ me → w.ended ≡ None → Fitting (given k) w.connections (journal w) → Good nobody u given nowhere n w → Kept nobody u given nowhere w n (comes_out (outcomes.Line m line) w)
@@ -317,7 +318,7 @@ module _ (nobody : UniqueAddress) (u m : ℕ) (given : ℕ → ℕ) (k : ℕ) (m
           heard h j i at y = by_test (j == k)
               (λ t. here (eq_true j k t))
               (λ t. in_talk n.me (name_by nobody y.conn.dialer ls) (given j) (stories_of n (name_by nobody y.conn.dialer ls)) ls (line ∷ ls) i y.conn
-                  (got_away ls (name_by nobody y.conn.dialer ls) n.me y.conn.dial (λ p q r. away t q (some_same (sym f.nonce ∙ r)))) (at_most_self _) (no_more _ _ _ refl) (h.origins (name_by nobody y.conn.dialer ls)) (λ p q. q) y.facts)
+              (got_away ls (name_by nobody y.conn.dialer ls) n.me y.conn.dial (λ p q r. away t q (some_same (sym f.nonce ∙ r)))) (at_most_self _) (no_more _ _ _ refl) (h.origins (name_by nobody y.conn.dialer ls)) (λ p q. q) y.facts)
             where
               out : Out nobody cs ls
               out = g.out live

@@ -79,8 +79,8 @@ module _ {nobody : UniqueAddress} {u m : ℕ} where
   all_heard k p stream (frame ∷ frames) given d b f g =
       let one : Kept nobody u (then_given given k (p + 1)) nowhere d.deeds (hears k stream frame d).node (hears k stream frame d).deeds = hears_kept k p stream frame d b (λ live. (f live).0) g in
       let rest : Given nobody u k (last (then_given given k (p + 1) k) (p + 1) frames) (then_given given k (p + 1)) (hears k stream frame d).deeds (each frames (hears k stream) (hears k stream frame d)).node (each frames (hears k stream) (hears k stream frame d)).deeds =
-          all_heard k (p + 1) stream frames (then_given given k (p + 1)) (hears k stream frame d) (Behind (then_here given k (p + 1)))
-          (λ live. frames_grow u k (p + 1) stream frames d.deeds.connections (hears k stream frame d).deeds.connections (along_grown u d.deeds.connections (hears k stream frame d).deeds.connections one.later.conns) (f (one.later.going live)).1) one.good in
+      all_heard k (p + 1) stream frames (then_given given k (p + 1)) (hears k stream frame d) (Behind (then_here given k (p + 1)))
+      (λ live. frames_grow u k (p + 1) stream frames d.deeds.connections (hears k stream frame d).deeds.connections (along_grown u d.deeds.connections (hears k stream frame d).deeds.connections one.later.conns) (f (one.later.going live)).1) one.good in
       record {
         after = rest.after;
         away = λ x n. rest.away x n ∙ then_away given k (p + 1) x n;
@@ -195,8 +195,8 @@ rises_put least k [] l h = (l, tt)
 rises_put least k (i ∷ is) l h =
     on_cond (λ (xs : List (Inbound whole)). Rises least (numbers_in xs)) (i.number == k) (accepted_as k ∷ is) _ (λ t. (l, subst (λ (x : ℕ). Rises (x + 1) (numbers_in is)) (eq_true i.number k t) h.1))
     (λ t. on_cond (λ (xs : List (Inbound whole)). Rises least (numbers_in xs)) (nat_lt k i.number) (accepted_as k ∷ i ∷ is) (i ∷ put_inbound (accepted_as k) is)
-        (λ s. (l, ((let a : k < i.number = grind (arith, nat_tests) in omega arith), h.1)))
-        (λ s. (h.0, rises_put (i.number + 1) k is (above t s) h.1)))
+    (λ s. (l, ((let a : k < i.number = grind (arith, nat_tests) in omega arith), h.1)))
+    (λ s. (h.0, rises_put (i.number + 1) k is (above t s) h.1)))
   where
     above : (i.number == k) ≡ false → nat_lt k i.number ≡ false → i.number + 1 ≤ k
     above t s = grind (arith, nat_tests)
@@ -223,11 +223,11 @@ lawful_within a b d (l ∷ ls) h = by l h.0 (lawful_within a b d ls h.1)
     got (Some ((way, None), message)) k w = absurd k
     got (Some (((y, x), Some e), message)) k w = on_cond (λ gs. Within gs (messages (told_by a b d ls))) (is_nonce b a d ((y, x), Some e)) (got_by a b d ls ++ message ∷ []) (got_by a b d ls)
         (λ t. (let s : (same b y && same a x) ≡ true = and_left (same b y && same a x) (d == e) t in
-            let yb : b ≡ y = same_is b y (and_left (same b y) (same a x) s) in
-            let xa : a ≡ x = same_is a x (and_right (same b y) (same a x) s) in
-            let de : d ≡ e = eq_true d e (and_right (same b y && same a x) (d == e) t) in
-            let P : UniqueAddress → UniqueAddress → ℕ → Type 0 = λ p q r. Within (got_by p q r ls ++ message ∷ []) (messages (told_by p q r ls)) in
-            subst (λ (r : ℕ). P a b r) (sym de) (subst (λ (q : UniqueAddress). P a q e) (sym yb) (subst (λ (p : UniqueAddress). P p y e) (sym xa) k))))
+        let yb : b ≡ y = same_is b y (and_left (same b y) (same a x) s) in
+        let xa : a ≡ x = same_is a x (and_right (same b y) (same a x) s) in
+        let de : d ≡ e = eq_true d e (and_right (same b y && same a x) (d == e) t) in
+        let P : UniqueAddress → UniqueAddress → ℕ → Type 0 = λ p q r. Within (got_by p q r ls ++ message ∷ []) (messages (told_by p q r ls)) in
+        subst (λ (r : ℕ). P a b r) (sym de) (subst (λ (q : UniqueAddress). P a q e) (sym yb) (subst (λ (p : UniqueAddress). P p y e) (sym xa) k))))
         (λ t. w)
 
     -- a line tells one of both at most

@@ -73,7 +73,7 @@ module _ (nobody : UniqueAddress) (u k p : ℕ) (given : ℕ → ℕ) (stream : 
   asked_by : (from : UniqueAddress) (to : Address) (its_nonce : Option ℕ) → f.wrote.writing ≡ Controls (controls.HandshakeReq from to its_nonce) → AskedBy nobody u k from its_nonce cs ls
   asked_by from to its_nonce w =
       let says : Each (λ (v : UniqueAddress). v ≡ name_by nobody f.conn.dialer ls) (speakers_said (Controls (controls.HandshakeReq from to its_nonce))) =
-          subst (λ (x : Writing). Each (λ (v : UniqueAddress). v ≡ name_by nobody f.conn.dialer ls) (speakers_said x)) w (said_each speakers_said (λ (v : UniqueAddress). v ≡ name_by nobody f.conn.dialer ls) f.conn.way.all p f.wrote f.here at_conn.says) in
+      subst (λ (x : Writing). Each (λ (v : UniqueAddress). v ≡ name_by nobody f.conn.dialer ls) (speakers_said x)) w (said_each speakers_said (λ (v : UniqueAddress). v ≡ name_by nobody f.conn.dialer ls) f.conn.way.all p f.wrote f.here at_conn.says) in
       let told : IsTold cs f.conn (Controls (controls.HandshakeReq from to its_nonce)) = subst (IsTold cs f.conn) w f.told in
       record { place = f.place; conn = f.conn; is = f.is; inward = f.inward; from = says.0; nonce = told }
 
@@ -81,7 +81,7 @@ module _ (nobody : UniqueAddress) (u k p : ℕ) (given : ℕ → ℕ) (stream : 
   meant_for : (from : UniqueAddress) (for_uid its_nonce : Option ℕ) → f.wrote.writing ≡ Controls (controls.HandshakeRsp from for_uid its_nonce) → Meant nobody u from for_uid its_nonce cs ls
   meant_for from for_uid its_nonce w =
       let says : Each (λ (v : UniqueAddress). v ≡ name_by nobody f.conn.dialer ls) (speakers_said (Controls (controls.HandshakeRsp from for_uid its_nonce))) =
-          subst (λ (x : Writing). Each (λ (v : UniqueAddress). v ≡ name_by nobody f.conn.dialer ls) (speakers_said x)) w (said_each speakers_said (λ (v : UniqueAddress). v ≡ name_by nobody f.conn.dialer ls) f.conn.way.all p f.wrote f.here at_conn.says) in
+      subst (λ (x : Writing). Each (λ (v : UniqueAddress). v ≡ name_by nobody f.conn.dialer ls) (speakers_said x)) w (said_each speakers_said (λ (v : UniqueAddress). v ≡ name_by nobody f.conn.dialer ls) f.conn.way.all p f.wrote f.here at_conn.says) in
       let told : IsTold cs f.conn (Controls (controls.HandshakeRsp from for_uid its_nonce)) = subst (IsTold cs f.conn) w f.told in
       let near : from.uid ≡ f.conn.dialer = ap (λ (z : UniqueAddress). z.uid) says.0 ∙ at_conn.near in
       let is : answers_said f.wrote.writing ≡ record { uid = told.uid; dial = told.dial } ∷ [] = ap answers_said w ∙ ap (λ (x : Option ℕ). answers_by x its_nonce) told.asked ∙ ap (answers_by (Some told.uid)) told.nonce in
@@ -103,7 +103,7 @@ module _ (nobody : UniqueAddress) (u k p : ℕ) (given : ℕ → ℕ) (stream : 
       let e : Ends nobody u who n.me f.conn ls = ends_of i who its_nonce at known in
       let t : Tabling = record { kind = kind; number = number; keys = keys; values = values } in
       let places : Each (λ (x : Tabling). x.values ≡ numbers_from 0 (length x.keys)) (t ∷ []) =
-          subst (Each (λ (x : Tabling). x.values ≡ numbers_from 0 (length x.keys))) w (said_each tables_said (λ (x : Tabling). x.values ≡ numbers_from 0 (length x.keys)) f.conn.way.all p f.wrote f.here at_conn.places) in
+      subst (Each (λ (x : Tabling). x.values ≡ numbers_from 0 (length x.keys))) w (said_each tables_said (λ (x : Tabling). x.values ≡ numbers_from 0 (length x.keys)) f.conn.way.all p f.wrote f.here at_conn.places) in
       let said : Has t (tables_on f.conn) = said_has tables_said f.conn.way.all p f.wrote t f.here w in
       let Q : List ℕ → Type 0 = λ z. Has (record { kind = kind; number = number; keys = keys; values = z }) (tables_on f.conn) in
       (record { place = f.place; conn = f.conn; is = f.is; near = sym e.dialer; far = e.far; said = subst Q places.0 said }, places.0)
@@ -114,8 +114,8 @@ module _ (nobody : UniqueAddress) (u k p : ℕ) (given : ℕ → ℕ) (stream : 
   ack_below i who its_nonce kind number at known w =
       let e : Ends nobody u who n.me f.conn ls = ends_of i who its_nonce at known in
       let below : Each (λ (x : Acking). x.number ≤ of_kind x.kind (adopted_by (name_by nobody f.conn.dialer ls) (name_by nobody f.conn.far ls) ls)) (record { kind = kind; number = number } ∷ []) =
-          subst (Each (λ (x : Acking). x.number ≤ of_kind x.kind (adopted_by (name_by nobody f.conn.dialer ls) (name_by nobody f.conn.far ls) ls))) w
-          (said_each acks_said (λ (x : Acking). x.number ≤ of_kind x.kind (adopted_by (name_by nobody f.conn.dialer ls) (name_by nobody f.conn.far ls) ls)) f.conn.way.all p f.wrote f.here at_conn.acks) in
+      subst (Each (λ (x : Acking). x.number ≤ of_kind x.kind (adopted_by (name_by nobody f.conn.dialer ls) (name_by nobody f.conn.far ls) ls))) w
+      (said_each acks_said (λ (x : Acking). x.number ≤ of_kind x.kind (adopted_by (name_by nobody f.conn.dialer ls) (name_by nobody f.conn.far ls) ls)) f.conn.way.all p f.wrote f.here at_conn.acks) in
       let P : UniqueAddress → UniqueAddress → Type 0 = λ a b. number ≤ of_kind kind (adopted_by a b ls) in
       subst (λ (a : UniqueAddress). P a n.me) (sym e.near) (subst (λ (b : UniqueAddress). P (name_by nobody f.conn.dialer ls) b) e.reached below.0)
 
@@ -150,7 +150,7 @@ module _ {nobody : UniqueAddress} {u m : ℕ} (given : ℕ → ℕ) (k p : ℕ) 
   asks_kept : (from : UniqueAddress) (to : Address) (its_nonce : Option ℕ) → content_in stream d.node i frame ≡ Ok (SaysControl (controls.HandshakeReq from to its_nonce)) → Then (handles i (SaysControl (controls.HandshakeReq from to its_nonce)))
   asks_kept from to its_nonce e = (requested_keeps i from to its_nonce some_given).on d
       (λ live. subst (λ (x : ℕ). AskedBy nobody u x from its_nonce d.deeds.connections (journal d.deeds)) (sym number_is)
-          (asked_by nobody u k p given stream frame d.node d.deeds.connections (journal d.deeds) (g.out live) (g.node live) (f live) from to its_nonce (writing_is (controls.HandshakeReq from to its_nonce) e live)))
+      (asked_by nobody u k p given stream frame d.node d.deeds.connections (journal d.deeds) (g.out live) (g.node live) (f live) from to its_nonce (writing_is (controls.HandshakeReq from to its_nonce) e live)))
       now_given
 
   answers_kept : (from : UniqueAddress) (for_uid its_nonce : Option ℕ) → content_in stream d.node i frame ≡ Ok (SaysControl (controls.HandshakeRsp from for_uid its_nonce)) → Then (handles i (SaysControl (controls.HandshakeRsp from for_uid its_nonce)))
@@ -190,7 +190,7 @@ module _ {nobody : UniqueAddress} {u m : ℕ} (given : ℕ → ℕ) (k p : ℕ) 
     ordinary_kept : (e : EnvelopeOf) (s : Meaning) → content_in stream d.node i frame ≡ Ok (Ordinary e s) → Then (spoken i who (Ordinary e s))
     ordinary_kept e s q = got_keeps k p stream frame i who its_nonce e s d at number_is known
         (λ live. comes_ordinary u k (given k) p stream frame d.node i e s d.deeds.connections b (f live)
-            (ordinary_is stream d.node i (f live).conn.dialer (f live).wrote.writing e s (f live).framed (f live).read (ap (content_in stream d.node i) (f live).bytes ∙ q))) g
+        (ordinary_is stream d.node i (f live).conn.dialer (f live).wrote.writing e s (f live).framed (f live).read (ap (content_in stream d.node i) (f live).bytes ∙ q))) g
 
     spoken_kept : (content : Content) → content_in stream d.node i frame ≡ Ok content → Then (spoken i who content)
     spoken_kept (Ordinary e s) q = ordinary_kept e s q

@@ -72,15 +72,18 @@ module _ (cs : List Conn) (k : Conn) where
   written_front : (near far : ℕ) (es : List EnvelopeOf) (ts : List Told) → AreWritten cs near far es ts → AreWritten (cs ++ k ∷ []) near far es ts
   written_front near far [] ts h = tt
   written_front near far (e ∷ es) [] h = h
-  written_front near far (e ∷ es) (t ∷ ts) h = (record {
-    refs_version = h.0.refs_version;
-    manifests_version = h.0.manifests_version;
-    sender = named_front near far Refs t.numbers.refs e.sender t.message.sender h.0.sender;
-    recipient = named_front near far Refs t.numbers.refs e.recipient t.message.recipient h.0.recipient;
-    manifest = named_front near far Manifests t.numbers.manifests e.manifest t.message.manifest h.0.manifest;
-    serializer = h.0.serializer;
-    payload = h.0.payload;
-  }, written_front near far es ts h.1)
+  written_front near far (e ∷ es) (t ∷ ts) h = (
+    record {
+      refs_version = h.0.refs_version;
+      manifests_version = h.0.manifests_version;
+      sender = named_front near far Refs t.numbers.refs e.sender t.message.sender h.0.sender;
+      recipient = named_front near far Refs t.numbers.refs e.recipient t.message.recipient h.0.recipient;
+      manifest = named_front near far Manifests t.numbers.manifests e.manifest t.message.manifest h.0.manifest;
+      serializer = h.0.serializer;
+      payload = h.0.payload;
+    },
+    written_front near far es ts h.1,
+  )
 
   conn_front : (a b : UniqueAddress) (ls : List Line) (c : Conn) → ConnFacts cs a b ls c → ConnFacts (cs ++ k ∷ []) a b ls c
   conn_front a b ls c f = record { near = f.near; far = f.far; told = written_front c.dialer c.far (sends_on c) (told_by a b c.dial ls) f.told; all = f.all; acks = f.acks; says = f.says; places = f.places }

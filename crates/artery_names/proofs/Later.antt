@@ -122,9 +122,10 @@ fits_later s kind adopted us f h = each_weaker _ _ (λ t k p.
 
 shown_later : (x : Option ℕ) (kind : Kind) (old new : OfKinds ℕ) (g : ℕ) (ts us : List Told) → AtMost old new → Each (λ (t : Told). AtMost old t.numbers) us → IsShown x kind old (drop g ts) → IsShown x kind new (drop g (ts ++ us))
 shown_later None kind old new g ts us le h k = tt
-shown_later (Some x) kind old new g ts us le h k =
-    ((let a : x ≤ of_kind kind old = k.0 in let b : of_kind kind old ≤ of_kind kind new = le kind in omega arith),
-    each_drop _ g ts us k.1 (each_weaker _ _ (λ t m. (let a : x ≤ of_kind kind old = k.0 in let b : of_kind kind old ≤ of_kind kind t.numbers = m kind in omega arith)) us h))
+shown_later (Some x) kind old new g ts us le h k = (
+  (let a : x ≤ of_kind kind old = k.0 in let b : of_kind kind old ≤ of_kind kind new = le kind in omega arith),
+  each_drop _ g ts us k.1 (each_weaker _ _ (λ t m. (let a : x ≤ of_kind kind old = k.0 in let b : of_kind kind old ≤ of_kind kind t.numbers = m kind in omega arith)) us h),
+)
 
 pub in_talk : (me a : UniqueAddress) (given : ℕ) (n : Kind → Story) (ls ks : List Line) (i : Inbound whole) (c : Conn) → got_by a me c.dial ks ≡ got_by a me c.dial ls → AtMost (adopted_by a me ls) (adopted_by a me ks)
     → More (adopted_by a me ls) (told_by a me c.dial ls) (told_by a me c.dial ks) → ((kind : Kind) → StoryFacts (n kind) (of_kind kind (adopted_by a me ls)))
@@ -194,7 +195,7 @@ module _ (nobody : UniqueAddress) (u : ℕ) (w v : Network) (l : Later nobody u 
       let a : UniqueAddress = name_by nobody y.conn.dialer (journal w) in
       let name : name_by nobody f.next.dialer (journal v) ≡ a = l.name f.next.dialer ∙ ap (λ (z : ℕ). name_by nobody z (journal w)) f.so.grown.dialer in
       let new : InFacts n.me a (given k) (stories_of n a) (journal v) i y.conn = in_talk n.me a (given k) (stories_of n a) (journal w) (journal v) i y.conn (l.got a n.me y.conn.dial (λ q. other (sym h.uid ∙ q))) (l.rises a n.me) (l.told a n.me y.conn.dial) (h.origins a)
-          (raw_later x given away n other out h k i at y.place y.conn y.is y.inward) y.facts in
+      (raw_later x given away n other out h k i at y.place y.conn y.is y.inward) y.facts in
       record {
         place = y.place;
         conn = f.next;
@@ -235,7 +236,7 @@ module _ (nobody : UniqueAddress) (u : ℕ) (w v : Network) (l : Later nobody u 
         let same : c.way.all ≡ b.was.way.all = b.so.others (λ q. other (sym is ∙ q)) in
         subst (λ (ws : List Wrote). Each (λ (y : Answering). (p : ℕ) (k : Conn) → slice_get v.connections p ≡ Some k → is_dialed y.uid y.dial k ≡ true → (k.far ≡ x) × ((i : Inbound whole) → inbound_at k.number n ≡ Some i → IsKnown i.state)) (all_said answers_said ws)) (sym same)
         (each_weaker _ _ (λ y f p k g t.
-            (let d = l.conns.back p k g in
-            let o = f p d.was d.is (sym (dialed_same y.uid y.dial d.was k d.so.grown) ∙ t) in
-            (d.so.grown.far ∙ o.0, λ i z. o.1 i (sym (ap (λ (q : ℕ). inbound_at q n) d.so.grown.number) ∙ z)))) (answers_on b.was) (h.opened j b.was b.is is)));
+        (let d = l.conns.back p k g in
+        let o = f p d.was d.is (sym (dialed_same y.uid y.dial d.was k d.so.grown) ∙ t) in
+        (d.so.grown.far ∙ o.0, λ i z. o.1 i (sym (ap (λ (q : ℕ). inbound_at q n) d.so.grown.number) ∙ z)))) (answers_on b.was) (h.opened j b.was b.is is)));
   }

@@ -40,9 +40,10 @@ place_within (y ∷ xs) (suc i) x h = (let k : i < length xs = place_within xs i
 -- The table with a number that was announced is that of the story.
 pub framed_get : (s : Story) (number : ℕ) (kind : Kind) (keys : List (List ℕ)) (values : List ℕ) → IsFramed s (record { kind = kind; number = number; keys = keys; values = values }) → (number ≤ length s.tables) × (numbered s number ≡ Some (table_of number keys))
 framed_get s number kind keys values h =
-    let e : number ≡ suc h.before = (let k : number ≡ h.before + 1 = h.number in omega arith) in
-    ((let k : h.before < length s.tables = place_within s.tables h.before keys h.names in omega arith),
-    ap (numbered s) e ∙ ap (option_map (table_of (suc h.before))) h.names ∙ ap (λ (n : ℕ). Some (table_of n keys)) (sym e))
+    let e : number ≡ suc h.before = (let k : number ≡ h.before + 1 = h.number in omega arith) in (
+      (let k : h.before < length s.tables = place_within s.tables h.before keys h.names in omega arith),
+      ap (numbered s) e ∙ ap (option_map (table_of (suc h.before))) h.names ∙ ap (λ (n : ℕ). Some (table_of n keys)) (sym e),
+    )
 
 -- an index that means something means the entry of the table with the number that was meant
 index_is : (s : Story) (number i : ℕ) (keys : List (List ℕ)) (name told : List ℕ) → IsStory s → number ≤ length s.tables → Fits (length s.tables) number → numbered s number ≡ Some (table_of number keys) → slice_get keys i ≡ Some told

@@ -52,7 +52,7 @@ on_origin v w m g s K (o ∷ os) here none away = by (is_origin v o) refl (is_or
         subst K (sym (found (g o) false (ap (λ (x : UniqueAddress). same_unique x w) (s o) ∙ f))) (subst K (found o false f) (a apart))
     by false e true f h n a rest =
         let apart : same_unique v w ≡ false = by_test (same_unique v w)
-            (λ t. not_both (ap (λ (x : UniqueAddress). same_unique o.who x) (unique_is v w t) ∙ f) e) (λ t. t) in
+        (λ t. not_both (ap (λ (x : UniqueAddress). same_unique o.who x) (unique_is v w t) ∙ f) e) (λ t. t) in
         subst K (sym (ap (λ (x : Bool). or_else (new_origin m w) (cond x (Some o) (find (is_origin w) (change_first (is_origin v) g os)))) f)) (subst K (found o true f) (a apart))
     by false e false f h n a rest =
         let skip : find (is_origin v) (o ∷ os) ≡ find (is_origin v) os = ap (λ (x : Bool). cond x (Some o) (find (is_origin v) os)) e in
@@ -128,11 +128,11 @@ confirmed_good nobody u given v kind number n w le g = restory_good nobody u giv
     each_one : w.ended ≡ None → (x : UniqueAddress) (other : Kind) → Confirms (story_of other x n) (of_kind other (adopted_by x n.me (journal w))) (story_of other x (record n { origins = change_first (is_origin v) (with_confirmed kind number) n.origins }))
     each_one e x other = on_origin v x n.moment (with_confirmed kind number) (λ o. refl) (λ (o : Origin whole). Confirms (story_of other x n) (of_kind other (adopted_by x n.me (journal w))) (of_kind other o.tables).story) n.origins
         (λ s o f. (let is : origin_at x n ≡ o = ap (λ (y : UniqueAddress). or_else (new_origin {P = whole} n.moment x) (find (is_origin y) n.origins)) s ∙ ap (or_else (new_origin {P = whole} n.moment x)) f in
-            subst (λ (y : Origin whole). Confirms (of_kind other y.tables).story (of_kind other (adopted_by x n.me (journal w))) (of_kind other (with_confirmed kind number o).tables).story) (sym is)
-            (kind_changed (λ (y : Announcing). Confirms (of_kind other o.tables).story (of_kind other (adopted_by x n.me (journal w))) y.story) kind other (confirmed number) o.tables
-                (λ q. confirmed_story number (of_kind other (adopted_by x n.me (journal w))) (of_kind other o.tables)
-                    (subst (λ (y : UniqueAddress). number ≤ of_kind other (adopted_by y n.me (journal w))) (sym s) (subst (λ (y : Kind). number ≤ of_kind y (adopted_by v n.me (journal w))) q (le e))))
-                (refl, λ z. z))))
+        subst (λ (y : Origin whole). Confirms (of_kind other y.tables).story (of_kind other (adopted_by x n.me (journal w))) (of_kind other (with_confirmed kind number o).tables).story) (sym is)
+        (kind_changed (λ (y : Announcing). Confirms (of_kind other o.tables).story (of_kind other (adopted_by x n.me (journal w))) y.story) kind other (confirmed number) o.tables
+        (λ q. confirmed_story number (of_kind other (adopted_by x n.me (journal w))) (of_kind other o.tables)
+        (subst (λ (y : UniqueAddress). number ≤ of_kind other (adopted_by y n.me (journal w))) (sym s) (subst (λ (y : Kind). number ≤ of_kind y (adopted_by v n.me (journal w))) q (le e))))
+        (refl, λ z. z))))
         (λ s f. (let is : origin_at x n ≡ new_origin {P = whole} n.moment x = ap (λ (y : UniqueAddress). or_else (new_origin {P = whole} n.moment x) (find (is_origin y) n.origins)) s ∙ ap (or_else (new_origin {P = whole} n.moment x)) f in
-            subst (λ (y : Origin whole). Confirms (of_kind other y.tables).story (of_kind other (adopted_by x n.me (journal w))) (of_kind other (new_origin {P = whole} n.moment x).tables).story) (sym is) (refl, λ z. z)))
+        subst (λ (y : Origin whole). Confirms (of_kind other y.tables).story (of_kind other (adopted_by x n.me (journal w))) (of_kind other (new_origin {P = whole} n.moment x).tables).story) (sym is) (refl, λ z. z)))
         (λ s. (refl, λ z. z))

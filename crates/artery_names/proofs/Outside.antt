@@ -144,9 +144,9 @@ writes_quietly u d x i c w e mine p =
     on_cond K (not c.near_open) stays _ (λ t. quietly_self u w)
     (λ t. on_cond K (is_too_much (length (bytes_of u x)) c w) (ends limits.Undelivered) _ (λ k. ends_quietly u limits.Undelivered w)
     (λ k. (let v : Network = record w { connections = slice_set w.connections i (with_writing x (bytes_of u x) c) } in
-        subst (λ (y : Network). Quietly u w (comes_out (outcomes.Wrote u d (bytes_of u x)) y)) (sym (set_at (with_writing x (bytes_of u x)) i w c e))
-        (quietly_then u w v (comes_out (outcomes.Wrote u d (bytes_of u x)) v)
-        (set_quietly u w i c (with_writing x (bytes_of u x) c) e (writing_still x (bytes_of u x) p c) (writing_stepped u x (bytes_of u x) c mine)) (wrote_quietly u d (bytes_of u x) v)))))
+    subst (λ (y : Network). Quietly u w (comes_out (outcomes.Wrote u d (bytes_of u x)) y)) (sym (set_at (with_writing x (bytes_of u x)) i w c e))
+    (quietly_then u w v (comes_out (outcomes.Wrote u d (bytes_of u x)) v)
+    (set_quietly u w i c (with_writing x (bytes_of u x) c) e (writing_still x (bytes_of u x) p c) (writing_stepped u x (bytes_of u x) c mine)) (wrote_quietly u d (bytes_of u x) v)))))
   where
     K : Change whole whole_ways → Type 0
     K change = Quietly u w (change w)

@@ -57,7 +57,7 @@ on_changed a b g s K (p ∷ ps) here none away = by (is_peer a p) refl (is_peer 
         subst K (sym (found (g p) false (at_b (g p) (s p) ∙ f))) (subst K (found p false f) (w apart))
     by false e true f h n w rest =
         let apart : same_address a b ≡ false = by_test (same_address a b)
-            (λ t. not_both (ap (λ (x : Address). same_address p.incarnations.address x) (address_is a b t) ∙ f) e) (λ t. t) in
+        (λ t. not_both (ap (λ (x : Address). same_address p.incarnations.address x) (address_is a b t) ∙ f) e) (λ t. t) in
         subst K (sym (ap (λ (x : Bool). or_else (new_peer b) (cond x (Some p) (find (is_peer b) (change_first (is_peer a) g ps)))) f)) (subst K (found p true f) (w apart))
     by false e false f h n w rest =
         let skip : find (is_peer a) (p ∷ ps) ≡ find (is_peer a) ps = ap (λ (x : Bool). cond x (Some p) (find (is_peer a) ps)) e in

@@ -249,9 +249,11 @@ module _ (nobody : UniqueAddress) where
       → Each (λ (x : Answering). (p : ℕ) (c : Conn) → slice_get ds p ≡ Some c → is_dialed x.uid x.dial c ≡ true → (c.far ≡ u) × ((i : Inbound whole) → inbound_at c.number k ≡ Some i → IsKnown i.state)) xs
   opened_plain u n k cs ds s l xs h = each_weaker _ _ (λ x f p c e t.
       (let b = l.back p c e in
-      let g = f p b.was b.is (sym (dialed_same x.uid x.dial b.was c b.so) ∙ t) in
-      (b.so.far ∙ g.0, λ i z. (let y = s.inbound c.number i z in
-          subst IsKnown (sym y.still.state) (g.1 y.was (sym (ap (λ (q : ℕ). inbound_at q n) b.so.number) ∙ y.is)))))) xs h
+      let g = f p b.was b.is (sym (dialed_same x.uid x.dial b.was c b.so) ∙ t) in (
+        b.so.far ∙ g.0,
+        λ i z. (let y = s.inbound c.number i z in
+            subst IsKnown (sym y.still.state) (g.1 y.was (sym (ap (λ (q : ℕ). inbound_at q n) b.so.number) ∙ y.is))),
+      ))) xs h
 
   pub node_plain : (u : ℕ) (given : ℕ → ℕ) (away : Address → Bool) (n k : Node whole) (cs ds : List Conn) (ls ks : List Line) → SameNode n k → SameTalk ls ks → Along Still cs ds
       → NodeFacts nobody u given away n cs ls → NodeFacts nobody u given away k ds ks

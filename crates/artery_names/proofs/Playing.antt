@@ -234,13 +234,13 @@ module _ (nobody : UniqueAddress) where
       let w1 : Network = joins p.dialer p.dial l.node.me.uid (l.accepted + 1) w in
       let j : Joined p l.node.me.uid (l.accepted + 1) w1 = joined p w l t found live o h.holds in
       let now : AllRead w1.connections → NowJoined nobody l.node.me.uid (l.accepted + 1) w1 = λ all.
-              (let before : AllRead w.connections = read_front w.connections (connected p.dialer p.dial l.node.me.uid (l.accepted + 1)) all in joins_names nobody p w l t found live o h.holds before (h.names before)) in
+      (let before : AllRead w.connections = read_front w.connections (connected p.dialer p.dial l.node.me.uid (l.accepted + 1)) all in joins_names nobody p w l t found live o h.holds before (h.names before)) in
       let b1 : Both nobody nothing_left w1 = record { holds = j.holds; names = λ all. (now all).names } in
       let w2 : Network = gives l.node.me.uid (inputs.Accepted (l.accepted + 1)) w1 in
       let b2 : Both nobody nothing_left w2 = gives_both nobody l.node.me.uid (inputs.Accepted (l.accepted + 1)) nothing_left nothing_left w1 live (λ q e. j.come) (λ e. j.holds) (λ f k. refl) (λ all. (now all).comes) b1 in
       on_cond (Both nobody nothing_left) (is_none w2.ended) (gives p.dialer (inputs.Dialed p.dial) w2) w2
       (λ s. gives_both nobody p.dialer (inputs.Dialed p.dial) nothing_left nothing_left w2 (none_is w2.ended s)
-          (λ q i e. silent_grow none_of_them p.dialer p.dial w1.connections w2.connections (λ n. n) (accepted_later l.node.me.uid (l.accepted + 1) w1) (j.silent live)) (λ e. b2.holds) (λ f k. refl) tt b2)
+      (λ q i e. silent_grow none_of_them p.dialer p.dial w1.connections w2.connections (λ n. n) (accepted_later l.node.me.uid (l.accepted + 1) w1) (j.silent live)) (λ e. b2.holds) (λ f k. refl) tt b2)
       (λ s. b2)
 
   failed_both : (p : Pending) → SafeBoth (gives p.dialer (inputs.DialFailed p.dial))

@@ -74,7 +74,7 @@ settled_shows : (v : UniqueAddress) (kind : Kind) (n : Node whole) (x : ℕ) (i 
 settled_shows v kind n x i its_nonce s at known ordinary =
     let h : shows_if_by v kind ((story_of kind v n).confirmed - 2) i ≡ true = all_found (shows_if_by v kind ((story_of kind v n).confirmed - 2)) (is_number x) n.inbound i s at in
     sym (ap (λ (b : Bool). cond b (shows ((story_of kind v n).confirmed - 2) (of_kind kind i.shown)) true)
-        (ap (λ (b : Bool). b && is_by v (speaker_in i.state)) ordinary ∙ ap (λ (t : InState). is_by v (speaker_in t)) known ∙ unique_self v)) ∙ h
+    (ap (λ (b : Bool). b && is_by v (speaker_in i.state)) ordinary ∙ ap (λ (t : InState). is_by v (speaker_in t)) known ∙ unique_self v)) ∙ h
 
 -- what is told later has numbers that are hardly below what is confirmed
 shows_fits : (c l : ℕ) (kind : Kind) (shown : Option ℕ) (adopted : OfKinds ℕ) (ts : List Told) → shows (c - 2) shown ≡ true → l ≤ c → IsShown shown kind adopted ts → Each (λ (t : Told). Fits (l + 1) (of_kind kind t.numbers)) ts
@@ -107,10 +107,10 @@ module _ (nobody : UniqueAddress) (u : ℕ) (given : ℕ → ℕ) (v : UniqueAdd
   each_story : (x : UniqueAddress) (other : Kind) → Announces v kind settled x other (story_of other x n) (story_of other x after)
   each_story x other = on_origin v x n.moment (with_advertised kind settled) (λ o. refl) (λ (o : Origin whole). Announces v kind settled x other (story_of other x n) (of_kind other o.tables).story) n.origins
       (λ s o f. (let is : origin_at x n ≡ o = ap (λ (y : UniqueAddress). or_else (new_origin {P = whole} n.moment x) (find (is_origin y) n.origins)) s ∙ ap (or_else (new_origin {P = whole} n.moment x)) f in
-          subst (λ (y : Origin whole). Announces v kind settled x other (of_kind other y.tables).story (of_kind other (with_advertised kind settled o).tables).story) (sym is)
-          (kind_changed (λ (y : Announcing). Announces v kind settled x other (of_kind other o.tables).story y.story) kind other (advertised settled) o.tables (λ q. Ahead s q (advance_is settled (of_kind other o.tables))) (Unmoved refl))))
+      subst (λ (y : Origin whole). Announces v kind settled x other (of_kind other y.tables).story (of_kind other (with_advertised kind settled o).tables).story) (sym is)
+      (kind_changed (λ (y : Announcing). Announces v kind settled x other (of_kind other o.tables).story y.story) kind other (advertised settled) o.tables (λ q. Ahead s q (advance_is settled (of_kind other o.tables))) (Unmoved refl))))
       (λ s f. (let is : origin_at x n ≡ new_origin {P = whole} n.moment x = ap (λ (y : UniqueAddress). or_else (new_origin {P = whole} n.moment x) (find (is_origin y) n.origins)) s ∙ ap (or_else (new_origin {P = whole} n.moment x)) f in
-          subst (λ (y : Origin whole). Announces v kind settled x other (of_kind other y.tables).story (of_kind other (new_origin {P = whole} n.moment x).tables).story) (sym is) (Unmoved refl)))
+      subst (λ (y : Origin whole). Announces v kind settled x other (of_kind other y.tables).story (of_kind other (new_origin {P = whole} n.moment x).tables).story) (sym is) (Unmoved refl)))
       (λ s. Unmoved refl)
 
   advanced_facts : (adopted : ℕ) (s t : Story) → Advances settled s t → StoryFacts s adopted → StoryFacts t adopted
@@ -143,7 +143,7 @@ module _ (nobody : UniqueAddress) (u : ℕ) (given : ℕ → ℕ) (v : UniqueAdd
             let known : i.state ≡ Known v its_nonce = e ∙ ap (λ (z : UniqueAddress). Known z its_nonce) (f.0 ∙ name) in
             let ordinary : is_ordinary (whole.carries i.bytes) ≡ true = c x i at (subst IsKnown (sym e) tt) y ord in
             shows_fits (story_of kind v n).confirmed (length (story_of kind v n).tables) kind (of_kind kind i.shown) (adopted_by (name_by nobody y.conn.dialer ls) n.me ls) (drop (sent_in (given x) y.conn) (told_by (name_by nobody y.conn.dialer ls) n.me y.conn.dial ls))
-                (settled_shows v kind n x i its_nonce set at known ordinary) le (y.facts.shown kind)
+            (settled_shows v kind n x i its_nonce set at known ordinary) le (y.facts.shown kind)
 
     restory : Restory nobody given n after cs ls
     restory = record {

@@ -54,16 +54,18 @@ module _ (nobody : UniqueAddress) (u m : ℕ) (given : ℕ → ℕ) (k p : ℕ) 
       let longer : messages (take (g + 1) ts) ≡ messages (take g ts) ++ next.told.message ∷ [] = take_next ts g next.told next.here in
       let pushed : Within (got_by v n.me next.conn.dial ls ++ tell_of s ∷ []) (messages (take g ts) ++ tell_of s ∷ []) = within_push (got_by v n.me next.conn.dial ls) (messages (take g ts)) (tell_of s) now in
       let ended : messages (take g ts) ++ tell_of s ∷ [] ≡ messages (take (g + 1) ts) = ap (λ (z : Tell). messages (take g ts) ++ z ∷ []) next.means ∙ sym longer in
-      let more : sent_in (then_given given k (p + 1) k) next.conn ≡ g + 1 = ap (λ (z : ℕ). sent_in z next.conn) (then_here given k (p + 1)) ∙ next.more in
-      (record {
-        place = next.place;
-        conn = next.conn;
-        is = next.is;
-        inward = next.inward;
-        named = next.named;
-        nonce = next.nonce;
-        got = subst (λ (z : ℕ). Within (got_by v n.me next.conn.dial ls ++ tell_of s ∷ []) (messages (take z ts))) (sym more) (subst (λ l. Within (got_by v n.me next.conn.dial ls ++ tell_of s ∷ []) l) ended pushed);
-      }, subst (λ (z : ℕ). z ≤ length next.conn.way.all) (sym (then_here given k (p + 1))) next.within)
+      let more : sent_in (then_given given k (p + 1) k) next.conn ≡ g + 1 = ap (λ (z : ℕ). sent_in z next.conn) (then_here given k (p + 1)) ∙ next.more in (
+        record {
+          place = next.place;
+          conn = next.conn;
+          is = next.is;
+          inward = next.inward;
+          named = next.named;
+          nonce = next.nonce;
+          got = subst (λ (z : ℕ). Within (got_by v n.me next.conn.dial ls ++ tell_of s ∷ []) (messages (take z ts))) (sym more) (subst (λ l. Within (got_by v n.me next.conn.dial ls ++ tell_of s ∷ []) l) ended pushed);
+        },
+        subst (λ (z : ℕ). z ≤ length next.conn.way.all) (sym (then_here given k (p + 1))) next.within,
+      )
 
 -- it fits after what says nothing of these
 fitting_plain : (nobody : UniqueAddress) (u m : ℕ) (given : ℕ → ℕ) (k : ℕ) (me v : UniqueAddress) (its_nonce : Option ℕ) (message : Tell) (g : ℕ) (n : Node whole) (w : Network) (o : Node whole) (x : Network) → Plainly u n w o x

@@ -118,12 +118,12 @@ started_names nobody v w new live h names = record {
   out = λ e. subst (Out nobody w.connections) (sym is) (out_started nobody v w.connections (journal w) apart (names.out live));
   lives = λ e. each_push (λ (l : Live whole). NodeNames nobody w.connections (journal w2) l.node) w.live (record { node = new_node v; accepted = 0 })
       (each_of (λ (l : Live whole). NodeNames nobody w.connections (journal w2) l.node) w.live (λ i l q.
-          (let k : NodeNames nobody w.connections (journal w) l.node = each_get (λ (x : Live whole). NodeNames nobody w.connections (journal w) x.node) w.live i l (names.lives live) q in
-          record {
-            given = k.given;
-            facts = subst (NodeFacts nobody l.node.me.uid k.given nowhere l.node w.connections) (sym is) (node_started nobody v w.connections (journal w) apart l.node.me.uid k.given l.node (unlike i l q) k.facts);
-            counts = k.counts;
-          })))
+      (let k : NodeNames nobody w.connections (journal w) l.node = each_get (λ (x : Live whole). NodeNames nobody w.connections (journal w) x.node) w.live i l (names.lives live) q in
+      record {
+        given = k.given;
+        facts = subst (NodeFacts nobody l.node.me.uid k.given nowhere l.node w.connections) (sym is) (node_started nobody v w.connections (journal w) apart l.node.me.uid k.given l.node (unlike i l q) k.facts);
+        counts = k.counts;
+      })))
       (record {
         given = λ k. 0;
         facts = subst (NodeFacts nobody v.uid (λ k. 0) nowhere (new_node v) w.connections) (sym is) (node_new nobody v w.connections (journal w) apart (names.silent live v.uid new));
@@ -150,7 +150,8 @@ started_names nobody v w new live h names = record {
       (λ q. (let a : 1 ≤ count (is_dialed v.uid c.dial) w.connections = count_here (is_dialed v.uid c.dial) w.connections i c e (and_both (c.dialer == v.uid) (c.dial == c.dial) (ap (λ (x : ℕ). x == v.uid) q ∙ eq_self v.uid) (eq_self c.dial)) in
           let b : count (is_dialed v.uid c.dial) w.connections ≡ 0 = (k.fresh c.dial).made in let f : ⊥ = omega arith in f)),
       (λ q. (let a : 1 ≤ count (is_far v.uid) w.connections = count_here (is_far v.uid) w.connections i c e (ap (λ (x : ℕ). x == v.uid) q ∙ eq_self v.uid) in
-          let b : count (is_far v.uid) w.connections ≡ 0 = k.far in let f : ⊥ = omega arith in f)))
+          let b : count (is_far v.uid) w.connections ≡ 0 = k.far in let f : ⊥ = omega arith in f)),
+    )
 
     unlike : (i : ℕ) (l : Live whole) → slice_get w.live i ≡ Some l → l.node.me.uid ≡ v.uid → ⊥
     unlike i l e q =

@@ -122,7 +122,8 @@ module _ (u k : ℕ) (cs : List Conn) (place : ℕ) (c : Conn) (is : slice_get c
       read = r.0;
       told = t.0;
     },
-    all_frames (p + 1) frames us (f.0, cons_rest f.1) (λ i y e. ap (slice_get c.way.all) (let q : p + 1 + i ≡ p + suc i = omega arith in q) ∙ here (suc i) y e) a.1 r.1 t.1)
+    all_frames (p + 1) frames us (f.0, cons_rest f.1) (λ i y e. ap (slice_get c.way.all) (let q : p + 1 + i ≡ p + suc i = omega arith in q) ∙ here (suc i) y e) a.1 r.1 t.1,
+  )
 
 -- ---- what comes on a connection
 
@@ -190,14 +191,14 @@ module _ (u k : ℕ) (cs : List Conn) (place : ℕ) (c : Conn) (is : slice_get c
               let same : x ≡ f.0 = subst (λ (o : Option Stream). IfSome o (λ y. y ≡ f.0)) e f.2.carried in
               let carries : (reading_of (bytes ++ piece)).stream ≡ carried c.way.all = e ∙ ap Some same ∙ sym (ap carried all ∙ ap stream_said f.1) in
               all_frames u k cs place c is inward (reading_of (bytes ++ piece)).stream carries
-                  (ap (λ (xs : List Wrote). length (all_said sends_said (take 1 xs))) all ∙ nothing_sent w f.0 f.1 ws)
-                  (frames_in bytes + 1) (new_frames bytes piece) (drop (frames_in bytes) ws)
-                  (subst (λ l. IsPrefix (new_frames bytes piece) l) (sym (map_dropped (λ (y : Wrote). frame_of c.dialer y.writing) (frames_in bytes) ws)) (prefix_dropped (frames_in bytes) (reading_of (bytes ++ piece)).frames (frames_by c.dialer ws) f.2.first))
-                  (λ i y h. ap (λ (xs : List Wrote). slice_get xs (frames_in bytes + 1 + i)) all
-                      ∙ ap (slice_get (w ∷ ws)) (let n : frames_in bytes + 1 + i ≡ suc (frames_in bytes + i) = omega arith in n) ∙ place_dropped (frames_in bytes) i ws y h)
-                  (frames_dropped c.dialer (frames_in bytes) ws a.1)
-                  (each_dropped _ (frames_in bytes) ws b.1)
-                  (each_dropped (λ (y : Wrote). IsTold cs c y.writing) (frames_in bytes) ws (each_weaker _ _ (λ (y : Wrote) h. told_true cs c y.writing read h) ws d.1))
+              (ap (λ (xs : List Wrote). length (all_said sends_said (take 1 xs))) all ∙ nothing_sent w f.0 f.1 ws)
+              (frames_in bytes + 1) (new_frames bytes piece) (drop (frames_in bytes) ws)
+              (subst (λ l. IsPrefix (new_frames bytes piece) l) (sym (map_dropped (λ (y : Wrote). frame_of c.dialer y.writing) (frames_in bytes) ws)) (prefix_dropped (frames_in bytes) (reading_of (bytes ++ piece)).frames (frames_by c.dialer ws) f.2.first))
+              (λ i y h. ap (λ (xs : List Wrote). slice_get xs (frames_in bytes + 1 + i)) all
+              ∙ ap (slice_get (w ∷ ws)) (let n : frames_in bytes + 1 + i ≡ suc (frames_in bytes + i) = omega arith in n) ∙ place_dropped (frames_in bytes) i ws y h)
+              (frames_dropped c.dialer (frames_in bytes) ws a.1)
+              (each_dropped _ (frames_in bytes) ws b.1)
+              (each_dropped (λ (y : Wrote). IsTold cs c y.writing) (frames_in bytes) ws (each_weaker _ _ (λ (y : Wrote) h. told_true cs c y.writing read h) ws d.1))
 
   read_sound : (reading_of bytes).end ≡ None
   read_sound = by c.way.all s r (front (subst (λ bs. IsPrefix (bytes ++ piece) bs) refl p))

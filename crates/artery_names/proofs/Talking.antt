@@ -109,13 +109,13 @@ module _ (u m dial : ℕ) (line : Line) (e : EnvelopeOf) (w : Network) (live : w
   written_spoken i c at t =
       on_cond K (not c.near_open) stays _ (λ n. told_alone (shut_there i c at t n))
       (λ n. on_cond K (is_too_much (length bytes) c w1) (ends limits.Undelivered) _
-          (λ k. record { lines = newest_line w.outcomes [] m line; conns = λ x. not_some (sym x); steps = along_self (Stepped u) (stepped_self u) w.connections; going = λ x. not_some (sym x) })
-          (λ k. subst (λ (y : Network). Spoken u dial line e w (comes_out (outcomes.Wrote u dial bytes) y)) (sym (set_at (with_writing (Sends e) bytes) i w1 c at)) (record {
-            lines = newest_wrote w1.outcomes [] u dial bytes ∙ newest_line w.outcomes [] m line;
-            conns = λ x. said_along u dial e bytes w.connections i c single at (is_open c.near_open n) t;
-            steps = along_set (Stepped u) (stepped_self u) w.connections i c (with_writing (Sends e) bytes c) at (writing_stepped u (Sends e) bytes c (dialer_is u dial c t));
-            going = λ x. x;
-          })))
+      (λ k. record { lines = newest_line w.outcomes [] m line; conns = λ x. not_some (sym x); steps = along_self (Stepped u) (stepped_self u) w.connections; going = λ x. not_some (sym x) })
+      (λ k. subst (λ (y : Network). Spoken u dial line e w (comes_out (outcomes.Wrote u dial bytes) y)) (sym (set_at (with_writing (Sends e) bytes) i w1 c at)) (record {
+        lines = newest_wrote w1.outcomes [] u dial bytes ∙ newest_line w.outcomes [] m line;
+        conns = λ x. said_along u dial e bytes w.connections i c single at (is_open c.near_open n) t;
+        steps = along_set (Stepped u) (stepped_self u) w.connections i c (with_writing (Sends e) bytes c) at (writing_stepped u (Sends e) bytes c (dialer_is u dial c t));
+        going = λ x. x;
+      })))
     where
       K : Change whole whole_ways → Type 0
       K change = Spoken u dial line e w (change w1)
@@ -154,14 +154,14 @@ module _ (nobody : UniqueAddress) (u dial uid : ℕ) (me : UniqueAddress) (a : A
     got = λ x z d n. ap (got_by x z d) s.lines;
     told = λ x z d. subst (λ ls. More (adopted_by x z (journal w)) (told_by x z d (journal w)) (told_by x z d ls)) (sym s.lines)
         (by_test (is_dial x z d ((me, incarnation a uid), dial))
-            (λ t. record { rest = now_told me (incarnation a uid) dial message (journal w) x z ∷ []; is = told_yes me (incarnation a uid) dial message (journal w) x z d t; numbers = (at_most_self (adopted_by x z (journal w)), tt) })
-            (λ t. no_more _ _ _ (told_no me (incarnation a uid) dial message (journal w) x z d t)));
+        (λ t. record { rest = now_told me (incarnation a uid) dial message (journal w) x z ∷ []; is = told_yes me (incarnation a uid) dial message (journal w) x z d t; numbers = (at_most_self (adopted_by x z (journal w)), tt) })
+        (λ t. no_more _ _ _ (told_no me (incarnation a uid) dial message (journal w) x z d t)));
     spoken = λ x z d. subst (λ ls. Or (told_by x z d ls ≡ told_by x z d (journal w)) (Answered v.connections z.uid x.uid d)) (sym s.lines)
         (by_test (is_dial x z d ((me, incarnation a uid), dial))
-            (λ t. (let i = it me (incarnation a uid) dial message (journal w) x z d t in
-                let k : Answered v.connections uid me.uid dial = answered_grows w.connections v.connections (along_grown u w.connections v.connections s.steps) uid me.uid dial y in
-                Second (subst (λ (b : UniqueAddress). Answered v.connections b.uid x.uid d) (sym i.far) (subst (λ (b : UniqueAddress). Answered v.connections uid b.uid d) (sym i.near) (subst (λ (b : ℕ). Answered v.connections uid me.uid b) (sym i.dial) k)))))
-            (λ t. First (told_no me (incarnation a uid) dial message (journal w) x z d t)));
+        (λ t. (let i = it me (incarnation a uid) dial message (journal w) x z d t in
+        let k : Answered v.connections uid me.uid dial = answered_grows w.connections v.connections (along_grown u w.connections v.connections s.steps) uid me.uid dial y in
+        Second (subst (λ (b : UniqueAddress). Answered v.connections b.uid x.uid d) (sym i.far) (subst (λ (b : UniqueAddress). Answered v.connections uid b.uid d) (sym i.near) (subst (λ (b : ℕ). Answered v.connections uid me.uid b) (sym i.dial) k)))))
+        (λ t. First (told_no me (incarnation a uid) dial message (journal w) x z d t)));
     going = s.going;
   }
 

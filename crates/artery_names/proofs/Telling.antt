@@ -196,7 +196,7 @@ module _ (nobody : UniqueAddress) (u : ℕ) (n : Node whole) (given : ℕ → �
   untold_told x y z (Second m) = Second (made_grows cs ds grow x.uid z m)
   untold_told x y z (First k) = by_test (is_dial x y z ((n.me, v), dial))
       (λ t. (let s = it n.me v dial message ls x y z t in
-          Second (subst (λ (b : ℕ). Made ds x.uid b) (sym s.dial) (subst (λ (b : UniqueAddress). Made ds b.uid dial) (sym s.near) (made_grows cs ds grow n.me.uid dial bound.made)))))
+      Second (subst (λ (b : ℕ). Made ds x.uid b) (sym s.dial) (subst (λ (b : UniqueAddress). Made ds b.uid dial) (sym s.near) (made_grows cs ds grow n.me.uid dial bound.made)))))
       (λ t. First (told_no n.me v dial message ls x y z t ∙ k))
 
   pub out_told : Out nobody ds ks
@@ -230,13 +230,13 @@ module _ (nobody : UniqueAddress) (u : ℕ) (n : Node whole) (given : ℕ → �
       → told_by (name_by nobody h.conn.dialer ls) n.me h.conn.dial ls ≡ [] → told_by (name_by nobody h.conn.dialer ls) n.me h.conn.dial ks ≡ []
   still_raw k i at h raw none = by_test (is_dial x n.me h.conn.dial ((n.me, v), dial))
       (λ t. (let s = it n.me v dial message ls x n.me h.conn.dial t in
-          let near : h.conn.dialer ≡ n.me.uid = sym (out.conns h.place h.conn h.is).near ∙ ap (λ (y : UniqueAddress). y.uid) s.near in
-          let self : n.me.uid ≡ uid = ap (λ (y : UniqueAddress). y.uid) s.far in
-          let y : Answered cs uid n.me.uid dial = bound.answered in
-          let f = each_get _ (answers_on y.conn) y.said.place _ (facts.opened y.place y.conn y.is (y.near ∙ sym self ∙ facts.uid)) y.said.is in
-          let g = f h.place h.conn h.is (and_both (h.conn.dialer == n.me.uid) (h.conn.dial == dial) (subst (λ (z : ℕ). (h.conn.dialer == z) ≡ true) near (eq_self h.conn.dialer)) (subst (λ (z : ℕ). (h.conn.dial == z) ≡ true) s.dial (eq_self h.conn.dial))) in
-          let number : h.conn.number ≡ k = eq_true h.conn.number k (and_right (h.conn.far == n.me.uid) (h.conn.number == k) h.inward) in
-          absurd (subst IsKnown raw (g.1 i (ap (λ (z : ℕ). inbound_at z n) number ∙ at)))))
+      let near : h.conn.dialer ≡ n.me.uid = sym (out.conns h.place h.conn h.is).near ∙ ap (λ (y : UniqueAddress). y.uid) s.near in
+      let self : n.me.uid ≡ uid = ap (λ (y : UniqueAddress). y.uid) s.far in
+      let y : Answered cs uid n.me.uid dial = bound.answered in
+      let f = each_get _ (answers_on y.conn) y.said.place _ (facts.opened y.place y.conn y.is (y.near ∙ sym self ∙ facts.uid)) y.said.is in
+      let g = f h.place h.conn h.is (and_both (h.conn.dialer == n.me.uid) (h.conn.dial == dial) (subst (λ (z : ℕ). (h.conn.dialer == z) ≡ true) near (eq_self h.conn.dialer)) (subst (λ (z : ℕ). (h.conn.dial == z) ≡ true) s.dial (eq_self h.conn.dial))) in
+      let number : h.conn.number ≡ k = eq_true h.conn.number k (and_right (h.conn.far == n.me.uid) (h.conn.number == k) h.inward) in
+      absurd (subst IsKnown raw (g.1 i (ap (λ (z : ℕ). inbound_at z n) number ∙ at)))))
       (λ t. told_no n.me v dial message ls x n.me h.conn.dial t ∙ none)
     where
       x : UniqueAddress
@@ -249,8 +249,8 @@ module _ (nobody : UniqueAddress) (u : ℕ) (n : Node whole) (given : ℕ → �
       let g : Grown h.conn f.next = spoke_grown u dial e h.conn f.next f.so in
       let x : UniqueAddress = name_by nobody h.conn.dialer ls in
       let more : More (adopted_by x n.me ls) (told_by x n.me h.conn.dial ls) (told_by x n.me h.conn.dial ks) = by_test (is_dial x n.me h.conn.dial ((n.me, v), dial))
-              (λ t. record { rest = now_told n.me v dial message ls x n.me ∷ []; is = told_yes n.me v dial message ls x n.me h.conn.dial t; numbers = (at_most_self (adopted_by x n.me ls), tt) })
-              (λ t. no_more (adopted_by x n.me ls) _ _ (told_no n.me v dial message ls x n.me h.conn.dial t)) in
+      (λ t. record { rest = now_told n.me v dial message ls x n.me ∷ []; is = told_yes n.me v dial message ls x n.me h.conn.dial t; numbers = (at_most_self (adopted_by x n.me ls), tt) })
+      (λ t. no_more (adopted_by x n.me ls) _ _ (told_no n.me v dial message ls x n.me h.conn.dial t)) in
       let new : InFacts n.me x (given k) (stories_of n x) ks i h.conn = in_talk n.me x (given k) (stories_of n x) ls ks i h.conn refl (at_most_self (adopted_by x n.me ls)) more (facts.origins x) (still_raw k i at h) h.facts in
       record {
         place = h.place;
@@ -279,8 +279,8 @@ module _ (nobody : UniqueAddress) (u : ℕ) (n : Node whole) (given : ℕ → �
         let fg = spoke_grown u dial e f.was c f.so in
         subst (λ xs. Each (λ (y : Answering). (p : ℕ) (k : Conn) → slice_get ds p ≡ Some k → is_dialed y.uid y.dial k ≡ true → (k.far ≡ u) × ((i : Inbound whole) → inbound_at k.number n ≡ Some i → IsKnown i.state)) xs) (sym (spoke_answers u dial e f.was c f.so))
         (each_weaker _ _ (λ y z p k at t.
-            (let g = spoke.back p k at in
-            let gg = spoke_grown u dial e g.was k g.so in
-            let r = z p g.was g.is (sym (dialed_same y.uid y.dial g.was k gg) ∙ t) in
-            (gg.far ∙ r.0, λ i q. r.1 i (sym (ap (λ (w : ℕ). inbound_at w n) gg.number) ∙ q)))) (answers_on f.was) (facts.opened j f.was f.is (sym fg.dialer ∙ o))));
+        (let g = spoke.back p k at in
+        let gg = spoke_grown u dial e g.was k g.so in
+        let r = z p g.was g.is (sym (dialed_same y.uid y.dial g.was k gg) ∙ t) in
+        (gg.far ∙ r.0, λ i q. r.1 i (sym (ap (λ (w : ℕ). inbound_at w n) gg.number) ∙ q)))) (answers_on f.was) (facts.opened j f.was f.is (sym fg.dialer ∙ o))));
   }

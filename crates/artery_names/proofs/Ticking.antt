@@ -186,11 +186,17 @@ advertised_may : (nobody : UniqueAddress) (u k : ℕ) (v me : UniqueAddress) (ta
 advertised_may nobody u k v me table n cs ls Refs e f = record {
   sends = refl;
   tables = λ i c at t. (subst (λ (x : UniqueAddress). IsFramed (story_of Refs x n) (record { kind = Refs; number = table_number table.version (sequence_of table.number); keys = table.names; values = numbers_from 0 (length table.names) })) (sym (f i c at t)) (announced_framed (story_of Refs v n) Refs table e), tt);
-  acks = λ i c at t. tt; answers = tt; speakers = tt }
+  acks = λ i c at t. tt;
+  answers = tt;
+  speakers = tt;
+}
 advertised_may nobody u k v me table n cs ls Manifests e f = record {
   sends = refl;
   tables = λ i c at t. (subst (λ (x : UniqueAddress). IsFramed (story_of Manifests x n) (record { kind = Manifests; number = table_number table.version (sequence_of table.number); keys = table.names; values = numbers_from 0 (length table.names) })) (sym (f i c at t)) (announced_framed (story_of Manifests v n) Manifests table e), tt);
-  acks = λ i c at t. tt; answers = tt; speakers = tt }
+  acks = λ i c at t. tt;
+  answers = tt;
+  speakers = tt;
+}
 
 module _ {u m : ℕ} where
   -- the node stays where something is only written or told
@@ -237,7 +243,7 @@ module _ {nobody : UniqueAddress} {u m : ℕ} {given : ℕ → ℕ} where
   announces_kept v kind None d e g = kept_self nobody u given nowhere d.node d.deeds g
   announces_kept v kind (Some table) d e g = write_kept (control_dial v d.node) (Controls (advertisement kind d.node.me v table)) d
       (λ k s live out h. advertised_may nobody u k v d.node.me table d.node d.deeds.connections (journal d.deeds) kind e
-          (λ i c at t. (bound_ends nobody u k v given d.node d.deeds.connections (journal d.deeds) h s i c at t).1)) g
+      (λ i c at t. (bound_ends nobody u k v given d.node d.deeds.connections (journal d.deeds) h s i c at t).1)) g
 
   as_kept : (v : UniqueAddress) (kind : Kind) (x : Advertised) (d : Work u m) → Good nobody u given nowhere d.node d.deeds → Kept nobody u given nowhere d.deeds (advertises_as v kind x d).node (advertises_as v kind x d).deeds
   as_kept v kind advertising.New d g =
@@ -299,7 +305,7 @@ module _ {nobody : UniqueAddress} {u m : ℕ} {given : ℕ → ℕ} where
       → Kept nobody u given nowhere d.deeds (ticks now d).node (ticks now d).deeds
   ticks_kept now d c g = kept_then nobody u given nowhere d.deeds d1.deeds (ticks_origins d1).deeds d1.node (ticks_origins d1).node k
       (origins_kept vs d1 (λ live. subst (λ is. Carrying u given is d1.deeds.connections) (origins_inbound vs d1)
-          (carrying_grows u given (ticks now d).node.inbound d.deeds.connections d1.deeds.connections (along_grown u d.deeds.connections d1.deeds.connections k.later.conns) (c (k.later.going live)))) k.good)
+      (carrying_grows u given (ticks now d).node.inbound d.deeds.connections d1.deeds.connections (along_grown u d.deeds.connections d1.deeds.connections k.later.conns) (c (k.later.going live)))) k.good)
     where
       d1 : Work u m
       d1 = (becomes (at_moment now) ▸ ticks_peers) d

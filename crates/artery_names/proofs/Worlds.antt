@@ -131,12 +131,14 @@ module _ (nobody : UniqueAddress) (u : ℕ) (given : ℕ → ℕ) (r s : Rest) (
       arrives_so u k w.connections spot.place c spot.here spot.passes all f.flies.written read f.said bytes piece (s u k) (front_piece c bytes piece (s u k) (ap (λ bs. bytes ++ bs) (sym e) ∙ had))
 
   tick_ready : (is : List (Inbound whole)) → Counts given n → ((j : ℕ) (bytes : List ℕ) → bytes_in (find (is_number j) is) ≡ Some bytes → bytes_at j n ≡ Some bytes) → Carrying u given is w.connections
-  tick_ready is counts from = record { at = λ x i e some place c at t.
-      (let b : bytes_at x n ≡ Some i.bytes = from x i.bytes (ap bytes_in e) in
-      let had : i.bytes ++ r u x ≡ take c.way.delivered (bytes_on c.way) = each_get (λ (d : Conn). is_inward u x d ≡ true → i.bytes ++ r u x ≡ take d.way.delivered (bytes_on d.way)) w.connections place c (heard x i.bytes b).holds at t in
-      let f : ConnFacts w.connections c = each_get (ConnFacts w.connections) w.connections place c conns at in
-      let read : Each (λ (y : Wrote). IsReadBack c.dialer y.writing) c.way.all = each_get (λ (d : Conn). Each (λ (y : Wrote). IsReadBack d.dialer y.writing) d.way.all) w.connections place c all at in
-      carries_so c f.flies.written read i.bytes (front_bytes c i.bytes (r u x) had) (subst (λ (y : ℕ). 1 ≤ y) (counts x i.bytes b) some)) }
+  tick_ready is counts from = record {
+    at = λ x i e some place c at t.
+        (let b : bytes_at x n ≡ Some i.bytes = from x i.bytes (ap bytes_in e) in
+        let had : i.bytes ++ r u x ≡ take c.way.delivered (bytes_on c.way) = each_get (λ (d : Conn). is_inward u x d ≡ true → i.bytes ++ r u x ≡ take d.way.delivered (bytes_on d.way)) w.connections place c (heard x i.bytes b).holds at t in
+        let f : ConnFacts w.connections c = each_get (ConnFacts w.connections) w.connections place c conns at in
+        let read : Each (λ (y : Wrote). IsReadBack c.dialer y.writing) c.way.all = each_get (λ (d : Conn). Each (λ (y : Wrote). IsReadBack d.dialer y.writing) d.way.all) w.connections place c all at in
+        carries_so c f.flies.written read i.bytes (front_bytes c i.bytes (r u x) had) (subst (λ (y : ℕ). 1 ≤ y) (counts x i.bytes b) some));
+  }
 
   is_ready : (input : Input) (after : Node whole) → Counts given n → Gave u input r s → Besides nobody u input w → ((j : ℕ) (bytes : List ℕ) → bytes_at j after ≡ Some bytes → BytesFrom input j bytes n) → Ready nobody u given input n after w
   is_ready (inputs.Request request) after c g b f = tt
@@ -156,8 +158,8 @@ outside_reacts nobody u input n w given c r f g =
     let e = go_outside u m input n w in
     subst (λ (d : Work u m). Reacts nobody u w d.node d.deeds) e
     (reacts_kept input (record { node = n; deeds = w }) c
-        (subst (λ (d : Work u m). Ready nobody u given input n d.node w) (sym e) r)
-        (subst (λ (d : Work u m). (j : ℕ) (bytes : List ℕ) → bytes_at j d.node ≡ Some bytes → BytesFrom input j bytes n) (sym e) f) g)
+    (subst (λ (d : Work u m). Ready nobody u given input n d.node w) (sym e) r)
+    (subst (λ (d : Work u m). (j : ℕ) (bytes : List ℕ) → bytes_at j d.node ≡ Some bytes → BytesFrom input j bytes n) (sym e) f) g)
 
 module _ (nobody : UniqueAddress) (u : ℕ) (input : Input) (r s : Rest) (w : Network) (l : Live whole) (found : live_of u w ≡ Some l) (live : w.ended ≡ None) (a : Arrives u input s w) (gave : Gave u input r s) (h : HoldsBut r w) (all : AllRead w.connections) (b : Besides nobody u input w) (names : Names nobody w) where
   is_u : l.node.me.uid ≡ u
@@ -244,6 +246,6 @@ gives_both nobody u input r s w live a absent gave b h = by (live_of u w) refl
     by (Some l) e = record {
       holds = subst (λ (x : Option (Live whole)). HoldsBut s (by_found (λ l. follows u (step input l.node)) x w)) e came.holds;
       names = λ all. (let before : AllRead w.connections = read_before (only u) w.connections (follows u (step input l.node) w).connections
-              (subst (λ (x : Option (Live whole)). Grow (only u) w.connections (by_found (λ l. follows u (step input l.node)) x w).connections) e came.conns) all in
+          (subst (λ (x : Option (Live whole)). Grow (only u) w.connections (by_found (λ l. follows u (step input l.node)) x w).connections) e came.conns) all in
           follows_names nobody u input r s w l e live (a l e) gave h.holds before b (h.names before));
     }

@@ -132,9 +132,9 @@ module _ (nobody : UniqueAddress) (u dial : ℕ) (x : Writing) (n : Node whole) 
     opened = λ j c e o. (let a = wrote.back j c e in
         let ag = wrote_grown u dial x a.was c a.so in
         each_weaker (IsOpened u n cs) (IsOpened u n ds) (λ y z p k at t. (let b = wrote.back p k at in
-            let bg = wrote_grown u dial x b.was k b.so in
-            let r = z p b.was b.is (sym (dialed_same y.uid y.dial b.was k bg) ∙ t) in
-            (bg.far ∙ r.0, λ i q. r.1 i (sym (ap (λ (v : ℕ). inbound_at v n) bg.number) ∙ q)))) (answers_on c)
+        let bg = wrote_grown u dial x b.was k b.so in
+        let r = z p b.was b.is (sym (dialed_same y.uid y.dial b.was k bg) ∙ t) in
+        (bg.far ∙ r.0, λ i q. r.1 i (sym (ap (λ (v : ℕ). inbound_at v n) bg.number) ∙ q)))) (answers_on c)
         (wrote_each u dial x a.was c a.so answers_said (IsOpened u n cs) (h.opened j a.was a.is (sym ag.dialer ∙ o)) (λ t. may.answers)));
   }
 
@@ -158,13 +158,13 @@ module _ (u m dial : ℕ) (x : Writing) (w : Network) where
   written_at i c at t =
       on_cond K (not c.near_open) stays _ (λ n. unwritten)
       (λ n. on_cond K (is_too_much (length (bytes_of u x)) c w) (ends limits.Undelivered) _
-          (λ k. record { lines = refl; conns = λ e. not_some (sym e); steps = along_self (Stepped u) (stepped_self u) w.connections; going = λ e. not_some (sym e) })
-          (λ k. subst (λ (y : Network). Writ u dial x w (comes_out (outcomes.Wrote u dial (bytes_of u x)) y)) (sym (set_at (with_writing x (bytes_of u x)) i w c at)) (record {
-            lines = newest_wrote w.outcomes [] u dial (bytes_of u x);
-            conns = λ e. along_set (Wrote u dial x) (λ c. Idle refl) w.connections i c (with_writing x (bytes_of u x) c) at (Added t (writing_grown x (bytes_of u x) c) (bytes_of u x) refl);
-            steps = along_set (Stepped u) (stepped_self u) w.connections i c (with_writing x (bytes_of u x) c) at (writing_stepped u x (bytes_of u x) c (dialer_is u dial c t));
-            going = λ e. e;
-          })))
+      (λ k. record { lines = refl; conns = λ e. not_some (sym e); steps = along_self (Stepped u) (stepped_self u) w.connections; going = λ e. not_some (sym e) })
+      (λ k. subst (λ (y : Network). Writ u dial x w (comes_out (outcomes.Wrote u dial (bytes_of u x)) y)) (sym (set_at (with_writing x (bytes_of u x)) i w c at)) (record {
+        lines = newest_wrote w.outcomes [] u dial (bytes_of u x);
+        conns = λ e. along_set (Wrote u dial x) (λ c. Idle refl) w.connections i c (with_writing x (bytes_of u x) c) at (Added t (writing_grown x (bytes_of u x) c) (bytes_of u x) refl);
+        steps = along_set (Stepped u) (stepped_self u) w.connections i c (with_writing x (bytes_of u x) c) at (writing_stepped u x (bytes_of u x) c (dialer_is u dial c t));
+        going = λ e. e;
+      })))
     where
       K : Change whole whole_ways → Type 0
       K change = Writ u dial x w (change w)
