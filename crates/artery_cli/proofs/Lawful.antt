@@ -11,6 +11,7 @@ use Rattle.artery_alone.specs.Alone.{Law, Keeps, close_law, watch_law, stopped_l
 use Rattle.artery_alone.specs.Network.{journal}
 use Rattle.artery_written.specs.Told.{AreTold}
 use Rattle.artery_prefix.specs.Prefix.{prefix_law}
+use Rattle.artery_names.specs.Ordinary.{ordinary_law}
 use Rattle.artery_replay.specs.declared.form.Form.{Form}
 use Rattle.artery_cli.specs.declared.command.Command.{Command}
 use Rattle.artery_cli.specs.declared.command.Command.TheVariants.{Show, Whole, Generate}
@@ -35,11 +36,12 @@ abbrev AllKeep : Law → Type 0
 AllKeep law = (script : List ScriptLine) → Keeps law (journal whole whole_ways script)
 
 pub texts_keep_laws : Spelled → ((script : List ScriptLine) → AreTold script → Keeps prefix_law (journal whole whole_ways script))
+    → ((script : List ScriptLine) → AreTold script → Keeps ordinary_law (journal whole whole_ways script))
     → AllKeep close_law → AllKeep watch_law → AllKeep stopped_law → AllKeep moment_law → AllKeepLaws
-texts_keep_laws law prefix close watch stopped moment text = by (script_of text) (read_told law text)
+texts_keep_laws law prefix ordinary close watch stopped moment text = by (script_of text) (read_told law text)
   where
     by : (read : Result (List ScriptLine) ScriptFault) → EachIfRead IsEvent read → KeptIfRead read
-    by (Ok script) told = record { prefix = prefix script told; close = close script; watch = watch script; stopped = stopped script; moment = moment script }
+    by (Ok script) told = record { prefix = prefix script told; close = close script; watch = watch script; ordinary = ordinary script told; stopped = stopped script; moment = moment script }
     by (Err fault) told = tt
 
 -- the answer to a script, where it was read

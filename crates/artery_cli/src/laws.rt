@@ -12,6 +12,7 @@ use artery_alone::{
     a_network_keeps_the_close_law, a_network_keeps_the_moment_law, a_network_keeps_the_stopped_law,
     a_network_keeps_the_watch_law,
 };
+use artery_names::a_script_keeps_the_ordinary_law;
 use artery_prefix::a_script_keeps_the_prefix_law;
 use artery_script::events_are_spelled;
 use artery_text::{spellings_are_read, spellings_are_tokens};
@@ -26,13 +27,14 @@ pub fn frames_are_read_again()
     spellings_are_tokens();
 }
 
-/// A law, with no code: whatever script a text tells, no line of the journal of its run breaks the prefix, the close, the watch, the stopped or the
-/// moment law.
+/// A law, with no code: whatever script a text tells, no line of the journal of its run breaks the prefix, the close, the watch, the ordinary,
+/// the stopped or the moment law.
 pub(crate) fn runs_keep_laws()
     ensures { (text : List ℕ) → IfOk (script_of text) (λ script. KeepsLaws (whole_run script).world.outcomes) }
 {
     events_are_spelled();
     a_script_keeps_the_prefix_law();
+    a_script_keeps_the_ordinary_law();
     a_network_keeps_the_close_law();
     a_network_keeps_the_watch_law();
     a_network_keeps_the_stopped_law();
