@@ -66,6 +66,7 @@ artery replay < SCRIPT            writes the journal of a script of a network, a
 artery replay --bytes < SCRIPT    writes each write of its nodes too
 artery replay --moments < SCRIPT  writes each line of the journal behind its moment
 artery gen N                      plays the generated script number N, and counts the lines of its journal
+artery node ADDRESS UID TURNS 1   runs a node at an address, with its requests from the input, and writes its journal
 artery --help                     tells this
 artery --version                  tells the version
 ";

@@ -1,0 +1,11 @@
+pub mod Acts
+pub mod Boards
+pub mod Ends
+pub mod Lawful
+pub mod Lines
+pub mod Losing
+pub mod Numbers
+pub mod Outsides
+pub mod Steps
+pub mod Turns
+pub mod Wholes

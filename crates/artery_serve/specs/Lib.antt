@@ -1,0 +1,9 @@
+pub mod Board
+pub mod Happening
+pub mod Carrying
+pub mod Story
+pub mod Ending
+pub mod Outside
+pub mod Serving
+pub mod Lawful
+pub mod Whole

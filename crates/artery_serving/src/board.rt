@@ -1,0 +1,32 @@
+//! The counts of the addresses that requests name.
+use artery_base::{Address, Bytes, NoMemory};
+use artery_serve::{Counted, CountingBoard};
+use artery_text::{print_address, print_number};
+use std::alloc::Global;
+
+/// A board that lists these addresses, in order.
+pub fn board_of(alloc: Global, addresses: Vec<Address>) -> Result<CountingBoard, NoMemory> {
+    let mut board = CountingBoard::new(alloc);
+    for address in addresses {
+        board.list(address)?;
+    }
+    Ok(board)
+}
+
+/// Appends the line of an address and its count.
+fn print_gate(counted: &Counted, out: &mut Bytes) -> Result<(), NoMemory> {
+    out.extend_from_slice(b"gate ")?;
+    print_address(&counted.address, out)?;
+    out.push(b' ')?;
+    print_number(counted.count, out)?;
+    out.push(b'\n')
+}
+
+/// The lines of a board, in order.
+pub fn gates(alloc: Global, board: &CountingBoard) -> Result<Bytes, NoMemory> {
+    let mut text = Bytes::new(alloc);
+    for counted in board.as_slice() {
+        print_gate(counted, &mut text)?;
+    }
+    Ok(text)
+}

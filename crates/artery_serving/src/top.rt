@@ -1,0 +1,91 @@
+//! The command `node`.
+use crate::asked::asked;
+use crate::input::{Gathered, gather, new_buffer};
+use crate::node_words::{NodeWords, NodeWordsFault, node_words};
+use crate::running::runs;
+use crate::stop::Stop;
+use crate::telling::{refuse, tell};
+use artery_base::Text;
+use artery_io::{Failed, Sink, Source, write_all};
+use artery_net::Net;
+use std::alloc::Global;
+
+/// Does what a text asks, or tells why it is refused.
+fn does<K: Sink, N: Net>(
+    alloc: Global,
+    words: NodeWords,
+    text: &[u8],
+    output: &mut K,
+    net: &mut N,
+) -> Result<u8, Stop> {
+    match asked(alloc, &words.address, text) {
+        Ok(asked) => runs(alloc, words, asked, output, net),
+        Err(refusal) => refuse(alloc, refusal, output),
+    }
+}
+
+/// Reads the requests and does what they ask.
+fn reads<S: Source, K: Sink, N: Net>(
+    alloc: Global,
+    words: NodeWords,
+    input: &mut S,
+    output: &mut K,
+    net: &mut N,
+) -> Result<u8, Stop> {
+    let mut buffer = new_buffer(alloc)?;
+    match gather(alloc, input, &mut buffer)? {
+        Gathered::Whole(text) => does(alloc, words, text.as_slice(), output, net),
+        Gathered::TooLong => tell(output, b"fault limit bytes\n", 6),
+    }
+}
+
+/// Does the command that the words name.
+fn command<S: Source, K: Sink, N: Net>(
+    alloc: Global,
+    words: &[Text],
+    input: &mut S,
+    output: &mut K,
+    net: &mut N,
+) -> Result<u8, Stop> {
+    match node_words(alloc, words) {
+        Ok(words) if words.senders == 1 => reads(alloc, words, input, output, net),
+        Ok(_) | Err(NodeWordsFault::BadWords) => tell(output, b"fault words\n", 2),
+        Err(NodeWordsFault::NoMemory) => Err(Stop::NoMemory),
+    }
+}
+
+/// Writes a last line, and answers the status, or 4 where it could not be written.
+fn finish<K: Sink>(output: &mut K, text: &[u8], status: u8) -> u8 {
+    match write_all(output, text) {
+        Ok(()) => status,
+        Err(Failed) => 4,
+    }
+}
+
+/// Runs one node over a net, by the words `node ADDRESS UID TURNS 1`, or the same with `stay` behind them.
+///
+/// The input is read whole first: request lines, of which none may name the node's own address. Then the node starts, and is served
+/// (`artery_serve::serve`) with these requests, in order, and this number of turns. Its journal is written line by line. The status is
+///
+/// - 0 where all requests were taken and the node does not owe; then for each address that the input names, in first order, a line
+///   `gate ADDRESS NUMBER` tells how often an incarnation there was learnt or closed;
+/// - 2 for other words (`fault words`), and for the first line that tells no request or names the own address (`fault line K`);
+/// - 3 where the source failed (`fault read`), 4 where the sink failed;
+/// - 6 for more than 67,108,864 bytes (`fault limit bytes`), 1,000,000 lines (`fault limit lines`) or 64 addresses (`fault limit peers`);
+/// - 7 where a call of `next` failed (`fault net`);
+/// - 8 where all turns were made and the node still owes (`fault turns`);
+/// - 9 where memory ran out (`fault memory`).
+pub fn run_node<S: Source, K: Sink, N: Net>(
+    alloc: Global,
+    words: &[Text],
+    input: &mut S,
+    output: &mut K,
+    net: &mut N,
+) -> u8 {
+    match command(alloc, words, input, output, net) {
+        Ok(status) => status,
+        Err(Stop::Read) => finish(output, b"fault read\n", 3),
+        Err(Stop::Write) => 4,
+        Err(Stop::NoMemory) => finish(output, b"fault memory\n", 9),
+    }
+}
