@@ -1,16 +1,11 @@
 -- The events of a script that was read, and of one that was generated, are fit for a network.
 use Rattle.std.proofs.Common.{◌≡◌, ℕ, zero, suc, ◌+◌, ◌<◌, ◌≤◌, Bool, true, false, cond, List, [], ◌∷◌, ◌++◌, length, get_or, refl, sym, ◌∙◌, ap, subst, arith}
-use Rattle.std.specs.Prelude.{Option, None, Some, Result, Ok, Err, nat_lt, ◌==◌}
+use Rattle.std.specs.Prelude.{Ok, nat_lt, ◌==◌}
 use Rattle.std.proofs.lemmas.List.Elements.{All-nil}
-use Rattle.artery_lines.specs.Lines.{lines_of}
 use Rattle.artery_script.specs.declared.event.Event.{Event}
 use Rattle.artery_script.specs.declared.event.Event.TheVariants as events
 use Rattle.artery_script.specs.declared.script.ScriptLine.{ScriptLine}
-use Rattle.artery_script.specs.declared.script.ScriptFault.{ScriptFault}
-use Rattle.artery_script.specs.declared.script.ScriptFault.TheVariants as script_faults
-use Rattle.artery_script.specs.Reading.{event_of}
-use Rattle.artery_script.specs.Scripts.{is_passed_over, at_line, items_from, most_lines, script_line, script_of}
-use Rattle.artery_script.specs.Texts.{event_text}
+use Rattle.artery_script.specs.Scripts.{script_of}
 use Rattle.artery_script.specs.Valid.{IsEvent}
 use Rattle.artery_generator.specs.declared.live.Live.{Live}
 use Rattle.artery_generator.specs.declared.turn.Turn.{Turn}
@@ -20,6 +15,7 @@ use Rattle.artery_generator.specs.Turns.{live_after_turns, restarts, turn_behind
 use Rattle.artery_generator.specs.Scripts.{turns_up_to, last_up_to, events_of_script, numbered_from, script_of as generated}
 use Rattle.artery_world.specs.Running.{IsFitEvent}
 use Rattle.artery_cli.specs.Playing.{AreFit}
+use Rattle.artery_cli.proofs.Read.{Spelled, Each, EachIfRead, read_each}
 
 -- ---- lists of fit events
 
@@ -32,8 +28,7 @@ fits_both [] ys h k = k
 fits_both (x ∷ xs) ys h k = (h.0, fits_both xs ys h.1 k)
 
 abbrev FitLines : List ScriptLine → Type 0
-FitLines [] = Unit {0}
-FitLines (l ∷ ls) = IsFitEvent l.event × FitLines ls
+FitLines script = Each IsFitEvent script
 
 fit_behind : (l : ScriptLine) (ls : List ScriptLine) → IsFitEvent l.event → AreFit ls → AreFit (l ∷ ls)
 fit_behind l ls first rest = λ k d inside. by k d inside
@@ -54,9 +49,6 @@ line_fits script items i x h same inside e =
 
 -- ---- a script that was read
 
-abbrev Spelled : Type 0
-Spelled = (text : List ℕ) (e : Event) → event_of text ≡ Some e → IsEvent e × (text ≡ event_text e)
-
 event_fits : (e : Event) → IsEvent e → IsFitEvent e
 event_fits (events.Start unique) h = tt
 event_fits (events.Stop uid) h = tt
@@ -71,35 +63,9 @@ event_fits (events.CutAll uid) h = tt
 event_fits (events.EndAll uid) h = tt
 event_fits (events.Pass rounds) h = tt
 
--- what is read as a script, if it is one, is fit
-abbrev FitsIfRead : Result (List ScriptLine) ScriptFault → Type 0
-FitsIfRead (Ok script) = FitLines script
-FitsIfRead (Err fault) = Unit {0}
-
-line_fit : Spelled → (n : ℕ) (text : List ℕ) (told : Option Event) → event_of text ≡ told → (others : Result (List ScriptLine) ScriptFault) → FitsIfRead others
-    → FitsIfRead (at_line n (script_line n text) others)
-line_fit law n text None e others h = rw e tt
-line_fit law n text (Some event) e (Ok others) h = rw e (event_fits event (law text event e).0, h)
-line_fit law n text (Some event) e (Err fault) h = rw e tt
-
-fit_by : Spelled → (n : ℕ) (line : List ℕ) (others : Result (List ScriptLine) ScriptFault) → FitsIfRead others → (b : Bool) → FitsIfRead (cond b others (at_line n (script_line n line) others))
-fit_by law n line others h true = h
-fit_by law n line others h false = line_fit law n line (event_of line) refl others h
-
-lines_fit : Spelled → (n : ℕ) (lines : List (List ℕ)) → FitsIfRead (items_from script_line n lines)
-lines_fit law n [] = tt
-lines_fit law n (line ∷ lines) = fit_by law n line (items_from script_line (n + 1) lines) (lines_fit law (n + 1) lines) (is_passed_over line)
-
-read_fits : Spelled → (text : List ℕ) → FitsIfRead (script_of text)
-read_fits law text = by (nat_lt most_lines (length (lines_of text)))
-  where
-    by : (b : Bool) → FitsIfRead (cond b (Err script_faults.TooManyLines) (items_from script_line 1 (lines_of text)))
-    by true = tt
-    by false = lines_fit law 1 (lines_of text)
-
 -- a script that a text tells
 pub script_is_fit : Spelled → (text : List ℕ) (script : List ScriptLine) → script_of text ≡ Ok script → AreFit script
-script_is_fit law text script e = are_fit script (subst FitsIfRead e (read_fits law text))
+script_is_fit law text script e = are_fit script (subst (EachIfRead IsFitEvent) e (read_each IsFitEvent (λ t x h. event_fits x (law t x h).0) text))
 
 -- ---- a script that was generated
 

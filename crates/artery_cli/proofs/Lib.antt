@@ -1,6 +1,7 @@
 pub mod Sinks
 pub mod Gathering
 pub mod PlayingLemmas
+pub mod Read
 pub mod Fit
 pub mod Replayed
 pub mod Counted

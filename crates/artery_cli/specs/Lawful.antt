@@ -6,6 +6,7 @@ use Rattle.artery_script.specs.Scripts.{script_of}
 use Rattle.artery_machine.specs.declared.world.Outcome.{Outcome}
 use Rattle.artery_alone.specs.Alone.{Keeps, close_law, watch_law, stopped_law, moment_law}
 use Rattle.artery_alone.specs.Network.{journal_of}
+use Rattle.artery_prefix.specs.Prefix.{prefix_law}
 use Rattle.artery_replay.specs.declared.form.Form.{Form}
 use Rattle.artery_replay.specs.Replay.{run_text}
 use Rattle.artery_cli.specs.declared.command.Command.{Command}
@@ -15,10 +16,11 @@ use Rattle.artery_cli.specs.declared.command.Task.TheVariants.{Replay, Make, Che
 use Rattle.artery_cli.specs.Limits.{most_bytes}
 use Rattle.artery_cli.specs.Answers.{whole_run}
 
--- No line among what came of events breaks one of these laws: an incarnation that was closed is not learnt, closed, sent to, told, taken from, got
--- from or heard again, each watch has an id of its own and ends at most once, nothing stands behind a stop and no start behind a line of the same
--- incarnation, and moments do not fall.
+-- No line among what came of events breaks one of these laws: what one incarnation took from another is a prefix of what that other sent to it
+-- before; an incarnation that was closed is not learnt, closed, sent to, told, taken from, got from or heard again; each watch has an id of its own
+-- and ends at most once; nothing stands behind a stop and no start behind a line of the same incarnation; and moments do not fall.
 pub record KeepsLaws (told : List Outcome) : Type 0 where
+  pub prefix : Keeps prefix_law (journal_of told)
   pub close : Keeps close_law (journal_of told)
   pub watch : Keeps watch_law (journal_of told)
   pub stopped : Keeps stopped_law (journal_of told)

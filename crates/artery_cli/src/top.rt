@@ -140,7 +140,7 @@ fn finish<K: Sink>(output: &mut K, text: &[u8], status: u8) -> u8
 ///   the lines of the journal, with `--bytes` each write too, and with `--moments` each line behind its moment.
 ///   Last comes a line `bytes UID DIAL WRITTEN DELIVERED` for each connection; where an event does not happen, or
 ///   not to its end, `fault line K ..` comes in their place, K being its line.
-///   Whatever the script, no line of the journal breaks the close, watch, stopped or moment law (docs/PROTOCOL.md).
+///   Whatever the script, no line of the journal breaks the prefix, close, watch, stopped or moment law (docs/PROTOCOL.md).
 /// - `gen N` reads nothing: it plays the script with the number N, from 1 to 10,000, and tells how many lines its
 ///   journal has, and how many of some kinds. Where that run stops, its fault line stands alone.
 ///
