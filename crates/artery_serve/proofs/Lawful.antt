@@ -13,16 +13,19 @@ use Rattle.artery_machine.specs.declared.input.Input.{Input}
 use Rattle.artery_machine.specs.Deeds.{Deed, Dials, Writes as WritesOn, Hangs, Tells, bytes_of, effects_of}
 use Rattle.artery_machine.specs.Parts.{Parts}
 use Rattle.artery_machine.specs.Node.{Node, new_node}
-use Rattle.artery_machine.specs.Doing.{tells_of}
+use Rattle.artery_machine.specs.Doing.{listed, tells_of}
 use Rattle.artery_machine.specs.Ticking.{numbers_from}
-use Rattle.artery_machine.specs.Reacting.{step}
+use Rattle.artery_machine.specs.Reacting.{reacts, step}
+use Rattle.artery_laws.proofs.Over.{SinkOver}
+use Rattle.artery_laws.proofs.OverTicking.{reacts_over}
+use Rattle.artery_laws.proofs.Same.{same as same_parts, node_same}
 use Rattle.artery_alone.specs.Alone.{moment_then, begun, Law, close_law, watch_law, stopped_law, Keeps, AreNumbered, numbers_taken}
-use Rattle.artery_alone.proofs.Journals.{noting, Unbroken}
+use Rattle.artery_alone.proofs.Journals.{noted, noting, Unbroken}
 use Rattle.artery_alone.proofs.Quiet.{tells_quiet}
 use Rattle.artery_alone.proofs.Taking.{Counting, took_numbers, down}
 use Rattle.artery_alone.proofs.Facts.{Good, quietly}
 use Rattle.artery_alone.proofs.Keeping.{reacts_keeps}
-use Rattle.artery_alone.proofs.Stories.{onto, Turns, keeps_told, close_turns, watch_turns, stopped_turns, noted_all, step_noted, holds}
+use Rattle.artery_alone.proofs.Stories.{onto, Turns, keeps_told, close_turns, watch_turns, stopped_turns, noted_all, holds}
 use Rattle.artery_net.specs.declared.event.NetEvent.{NetEvent}
 use Rattle.artery_net.specs.Story.{writing as writing_act}
 use Rattle.artery_net.specs.declared.offer.Offer.{Offer}
@@ -69,6 +72,21 @@ told_deeds m uid (WritesOn dial writing ∷ deeds) failing lost ls =
       (done_all (effects_of uid deeds) (fail_later failing) (lost_at (effects.Write dial (bytes_of uid writing)) (fails_first failing) lost)) refl))
 told_deeds m uid (Hangs conn ∷ deeds) failing lost ls = told_deeds m uid deeds (fail_later failing) lost ls
 told_deeds m uid (Tells line ∷ deeds) failing lost ls = told_deeds m uid deeds (fail_later failing) lost ((Some m, line) ∷ ls)
+
+-- ---- a step with its lines
+
+noted_last : (m : ℕ) (ls : List Entry) (deeds : List Deed) (deed : Deed) → noted m deed (noted_all m ls deeds) ≡ noted_all m ls (deeds ++ deed ∷ [])
+noted_last m ls [] deed = refl
+noted_last m ls (x ∷ deeds) deed = noted_last m (noted m x ls) deeds deed
+
+abbrev noted_behind : (m : ℕ) → List Entry → SinkOver listed (noting m)
+noted_behind m ls = record { to = λ deeds. noted_all m ls deeds; told = λ deed deeds. noted_last m ls deeds deed }
+
+step_noted : {P : Parts} (m : ℕ) (input : Input) (n : Node P) (ls : List Entry) → reacts {P = P} {E = noting m} input (record { node = n; deeds = ls }) ≡ record { node = (step input n).node; deeds = noted_all m ls (step input n).deeds }
+step_noted {P} m input n ls =
+    ap (λ (x : Node P). reacts {P = P} {E = noting m} input (record { node = x; deeds = ls })) (sym (node_same P n))
+    ∙ (reacts_over (same_parts P) (noted_behind m ls) input).on (record { node = n; deeds = [] })
+    ∙ ap (λ (x : Node P). record { node = x; deeds = noted_all m ls (step input n).deeds }) (node_same P (step input n).node)
 
 -- ---- a node and what it has told
 
