@@ -20,6 +20,7 @@ mod turning;
 pub use board::{Board, Counted, CountingBoard};
 pub use laws::{a_served_node_is_lawful, a_story_is_whole, losing_does_nothing};
 pub use loss::Loss;
+pub use naming::names;
 pub use served::{Served, Stop};
 pub use serving::serve;
 pub use telling::writes_line;

@@ -1,4 +1,9 @@
 //! An input that is read whole.
+ghost use Rattle.std.specs.Prelude.{◌<◌, length, vec_len, IfOk, IfSome, IsErrOf};
+ghost use Rattle.artery_io.specs.Faults.{Rose};
+ghost use Rattle.artery_serving.specs.Reading.{Gathers};
+ghost use Rattle.artery_serving.specs.declared.stop.Stop.TheVariants as stops;
+
 use crate::stop::Stop;
 use artery_base::{Bytes, NoMemory};
 use artery_io::{Failed, Source};
@@ -17,11 +22,12 @@ pub enum Gathered {
 }
 
 /// Reads all that is left, or one byte more than `MOST_BYTES`.
-pub fn gather<S: Source>(
-    alloc: Global,
-    input: &mut S,
-    buffer: &mut [u8],
-) -> Result<Gathered, Stop> {
+pub fn gather<S: Source>(alloc: Global, input: &mut S, buffer: &mut [u8]) -> Result<Gathered, Stop>
+    requires { 0 < length buffer.old }
+    ensures whole { IfOk result (λ gathered. IfSome (S.left input.old) (λ text. Gathers gathered text)) }
+    ensures read { IsErrOf result stops.Read → Rose (S.faults input.old) (S.faults input.new) }
+    ensures other { IsErrOf result stops.Write → ⊥ }
+{
     let mut bytes = Bytes::new(alloc);
     for _ in 0..u64::MAX {
         let room = buffer.len().min(MOST_BYTES + 1 - bytes.len());
@@ -43,6 +49,8 @@ pub fn gather<S: Source>(
 }
 
 /// A buffer for pieces of an input.
-pub fn new_buffer(alloc: Global) -> Result<Vec<u8>, NoMemory> {
+pub fn new_buffer(alloc: Global) -> Result<Vec<u8>, NoMemory>
+    ensures { IfOk result (λ buffer. 0 < vec_len buffer) }
+{
     Ok(vec![in alloc; 0u8; 65536]?)
 }

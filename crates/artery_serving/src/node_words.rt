@@ -1,5 +1,5 @@
 //! The words of the command `node`.
-ghost use Rattle.std.specs.Prelude.{◌≡◌};
+ghost use Rattle.std.specs.Prelude.{◌≡◌, ◌<◌, IfOk, IfSome};
 ghost use Rattle.artery_base.specs.Words.{Gives};
 ghost use Rattle.artery_text.specs.Reading.{number_of};
 ghost use Rattle.artery_serving.specs.Words.{as_turns, as_senders, node_with, node_of, words_memory};
@@ -40,7 +40,8 @@ const MOST_SENDERS: u64 = 16;
 
 /// A number of turns.
 fn turns_in(text: &[u8]) -> Option<u64>
-    ensures { result ≡ as_turns (number_of text.now) }
+    ensures turns { result ≡ as_turns (number_of text.now) }
+    ensures some { IfSome result (λ turns. 0 < turns) }
 {
     let turns = read_number(text)?;
     if turns < 1 || turns > MOST_TURNS {
@@ -69,7 +70,8 @@ fn node_with(
     senders: &[u8],
     stay: bool,
 ) -> Result<NodeWords, NodeWordsFault>
-    ensures { Gives words_memory result (node_with address.now uid.now turns.now senders.now stay) }
+    ensures words { Gives words_memory result (node_with address.now uid.now turns.now senders.now stay) }
+    ensures turns { IfOk result (λ words. 0 < words.turns) }
 {
     let Some(uid) = read_number(uid) else {
         return Err(NodeWordsFault::BadWords);
@@ -96,7 +98,8 @@ fn node_with(
 /// The words `node ADDRESS UID TURNS SENDERS`, or the same with `stay` behind them. UID is from 0 to 2^64 - 1, TURNS from 1 to 2^62 - 1,
 /// SENDERS from 1 to 16. `BadWords` comes exactly for other words.
 pub fn node_words(alloc: Global, words: &[Text]) -> Result<NodeWords, NodeWordsFault>
-    ensures { Gives words_memory result (node_of words.now) }
+    ensures words { Gives words_memory result (node_of words.now) }
+    ensures turns { IfOk result (λ words. 0 < words.turns) }
 {
     match words {
         [word, address, uid, turns, senders] => {

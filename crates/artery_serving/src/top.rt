@@ -1,26 +1,67 @@
 //! The command `node`.
-use crate::asked::asked;
+ghost use Rattle.std.specs.Prelude.{◌≡◌, ◌≤◌, ◌<◌, length, IfOk, IsErrOf};
+ghost use Rattle.artery_io.specs.Faults.{Rose};
+ghost use Rattle.artery_serving.specs.declared.stop.Stop.TheVariants as stops;
+
+use crate::asked::{Asked, addresses_in, asked_in};
+use crate::board::board_of;
 use crate::input::{Gathered, gather, new_buffer};
 use crate::node_words::{NodeWords, NodeWordsFault, node_words};
 use crate::running::runs;
 use crate::stop::Stop;
-use crate::telling::{refuse, tell};
+use crate::telling::{tell, tell_bad_line};
 use artery_base::Text;
 use artery_io::{Failed, Sink, Source, write_all};
 use artery_net::Net;
+use artery_script::ScriptFault;
 use std::alloc::Global;
 
-/// Does what a text asks, or tells why it is refused.
+/// The most addresses that requests name.
+const MOST_PEERS: usize = 64;
+
+/// Does what is asked, unless too many addresses are named.
 fn does<K: Sink, N: Net>(
+    alloc: Global,
+    words: NodeWords,
+    asked: Asked,
+    output: &mut K,
+    net: &mut N,
+) -> Result<u8, Stop>
+    requires { 0 < words.turns }
+    ensures plain { IfOk result (λ status. (status ≡ 3 → ⊥) × (status ≡ 4 → ⊥) × (status ≡ 9 → ⊥)) }
+    ensures net { IfOk result (λ status. status ≡ 7 → Rose (N.next_faults net.old) (N.next_faults net.new)) }
+    ensures later { K.faults output.old ≤ K.faults output.new }
+    ensures write { IsErrOf result stops.Write → Rose (K.faults output.old) (K.faults output.new) }
+    ensures other { IsErrOf result stops.Read → ⊥ }
+{
+    let addresses = addresses_in(alloc, &asked)?;
+    if addresses.len() > MOST_PEERS {
+        return tell(output, b"fault limit peers\n", 6);
+    }
+    let mut board = board_of(alloc, addresses)?;
+    runs(alloc, words, &mut board, asked, output, net)
+}
+
+/// Does what a text asks, or tells why it is refused.
+fn obeys<K: Sink, N: Net>(
     alloc: Global,
     words: NodeWords,
     text: &[u8],
     output: &mut K,
     net: &mut N,
-) -> Result<u8, Stop> {
-    match asked(alloc, &words.address, text) {
-        Ok(asked) => runs(alloc, words, asked, output, net),
-        Err(refusal) => refuse(alloc, refusal, output),
+) -> Result<u8, Stop>
+    requires { 0 < words.turns }
+    ensures plain { IfOk result (λ status. (status ≡ 3 → ⊥) × (status ≡ 4 → ⊥) × (status ≡ 9 → ⊥)) }
+    ensures net { IfOk result (λ status. status ≡ 7 → Rose (N.next_faults net.old) (N.next_faults net.new)) }
+    ensures later { K.faults output.old ≤ K.faults output.new }
+    ensures write { IsErrOf result stops.Write → Rose (K.faults output.old) (K.faults output.new) }
+    ensures other { IsErrOf result stops.Read → ⊥ }
+{
+    match asked_in(alloc, &words.address, text) {
+        Ok(asked) => does(alloc, words, asked, output, net),
+        Err(ScriptFault::BadLine { line }) => tell_bad_line(alloc, line, output),
+        Err(ScriptFault::TooManyLines) => tell(output, b"fault limit lines\n", 6),
+        Err(ScriptFault::NoMemory) => Err(Stop::NoMemory),
     }
 }
 
@@ -31,10 +72,17 @@ fn reads<S: Source, K: Sink, N: Net>(
     input: &mut S,
     output: &mut K,
     net: &mut N,
-) -> Result<u8, Stop> {
+) -> Result<u8, Stop>
+    requires { 0 < words.turns }
+    ensures plain { IfOk result (λ status. (status ≡ 3 → ⊥) × (status ≡ 4 → ⊥) × (status ≡ 9 → ⊥)) }
+    ensures net { IfOk result (λ status. status ≡ 7 → Rose (N.next_faults net.old) (N.next_faults net.new)) }
+    ensures later { K.faults output.old ≤ K.faults output.new }
+    ensures write { IsErrOf result stops.Write → Rose (K.faults output.old) (K.faults output.new) }
+    ensures read { IsErrOf result stops.Read → Rose (S.faults input.old) (S.faults input.new) }
+{
     let mut buffer = new_buffer(alloc)?;
     match gather(alloc, input, &mut buffer)? {
-        Gathered::Whole(text) => does(alloc, words, text.as_slice(), output, net),
+        Gathered::Whole(text) => obeys(alloc, words, text.as_slice(), output, net),
         Gathered::TooLong => tell(output, b"fault limit bytes\n", 6),
     }
 }
@@ -46,16 +94,32 @@ fn command<S: Source, K: Sink, N: Net>(
     input: &mut S,
     output: &mut K,
     net: &mut N,
-) -> Result<u8, Stop> {
+) -> Result<u8, Stop>
+    ensures plain { IfOk result (λ status. (status ≡ 3 → ⊥) × (status ≡ 4 → ⊥) × (status ≡ 9 → ⊥)) }
+    ensures net { IfOk result (λ status. status ≡ 7 → Rose (N.next_faults net.old) (N.next_faults net.new)) }
+    ensures later { K.faults output.old ≤ K.faults output.new }
+    ensures write { IsErrOf result stops.Write → Rose (K.faults output.old) (K.faults output.new) }
+    ensures read { IsErrOf result stops.Read → Rose (S.faults input.old) (S.faults input.new) }
+{
     match node_words(alloc, words) {
-        Ok(words) if words.senders == 1 => reads(alloc, words, input, output, net),
-        Ok(_) | Err(NodeWordsFault::BadWords) => tell(output, b"fault words\n", 2),
+        Ok(words) => {
+            if words.senders != 1 {
+                return tell(output, b"fault words\n", 2);
+            }
+            reads(alloc, words, input, output, net)
+        }
+        Err(NodeWordsFault::BadWords) => tell(output, b"fault words\n", 2),
         Err(NodeWordsFault::NoMemory) => Err(Stop::NoMemory),
     }
 }
 
 /// Writes a last line, and answers the status, or 4 where it could not be written.
-fn finish<K: Sink>(output: &mut K, text: &[u8], status: u8) -> u8 {
+fn finish<K: Sink>(output: &mut K, text: &[u8], status: u8) -> u8
+    ensures told { (result ≡ 4 → ⊥) → result ≡ status }
+    ensures either { (result ≡ status → ⊥) → result ≡ 4 }
+    ensures write { (status ≡ 4 → ⊥) → result ≡ 4 → Rose (K.faults output.old) (K.faults output.new) }
+    ensures later { K.faults output.old ≤ K.faults output.new }
+{
     match write_all(output, text) {
         Ok(()) => status,
         Err(Failed) => 4,
@@ -81,7 +145,11 @@ pub fn run_node<S: Source, K: Sink, N: Net>(
     input: &mut S,
     output: &mut K,
     net: &mut N,
-) -> u8 {
+) -> u8
+    ensures read { result ≡ 3 → Rose (S.faults input.old) (S.faults input.new) }
+    ensures write { result ≡ 4 → Rose (K.faults output.old) (K.faults output.new) }
+    ensures net { result ≡ 7 → Rose (N.next_faults net.old) (N.next_faults net.new) }
+{
     match command(alloc, words, input, output, net) {
         Ok(status) => status,
         Err(Stop::Read) => finish(output, b"fault read\n", 3),
