@@ -69,7 +69,7 @@ told_deeds m uid (Dials dial address ∷ deeds) failing lost ls = told_deeds m u
 told_deeds m uid (WritesOn dial writing ∷ deeds) failing lost ls =
     told_deeds m uid deeds (fail_later failing) (lost_at (effects.Write dial (bytes_of uid writing)) (fails_first failing) lost) ls
     ∙ sym (ap (λ l. told_onto l (forgets ls)) (left_in_place (is_lost dial lost) (Does (writing_act dial (bytes_of uid writing) (fails_first failing)))
-      (done_all (effects_of uid deeds) (fail_later failing) (lost_at (effects.Write dial (bytes_of uid writing)) (fails_first failing) lost)) refl))
+    (done_all (effects_of uid deeds) (fail_later failing) (lost_at (effects.Write dial (bytes_of uid writing)) (fails_first failing) lost)) refl))
 told_deeds m uid (Hangs conn ∷ deeds) failing lost ls = told_deeds m uid deeds (fail_later failing) lost ls
 told_deeds m uid (Tells line ∷ deeds) failing lost ls = told_deeds m uid deeds (fail_later failing) lost ((Some m, line) ∷ ls)
 
@@ -148,7 +148,7 @@ module _ {P : Parts} {tally : Counting P} {me : UniqueAddress} where
       let mid : Served (after_event t.event t.at_event n) (told_onto (lines_in (at_event t.event t.at_event n)) ks) = some_served (event_input n.moment t.event) t.at_event n ks s in
       subst (Served (after_turn t n))
       (sym (told_both (lines_in (at_event t.event t.at_event n)) (lines_in (at_fed t.fed t.at_fed (after_event t.event t.at_event n))) ks)
-        ∙ ap (λ l. told_onto l ks) (sym (lines_both (at_event t.event t.at_event n) (at_fed t.fed t.at_fed (after_event t.event t.at_event n)))))
+      ∙ ap (λ l. told_onto l ks) (sym (lines_both (at_event t.event t.at_event n) (at_fed t.fed t.at_fed (after_event t.event t.at_event n)))))
       (fed_served t.fed t.at_fed (after_event t.event t.at_event n) (told_onto (lines_in (at_event t.event t.at_event n)) ks) mid)
 
   turns_served : (ts : List Turn) (n : Node P) (ks : List Line) → Served n ks → Served (after_turns ts n) (told_onto (lines_in (at_turns ts n)) ks)
@@ -193,9 +193,11 @@ watch_timeless = record { forgotten = λ ls e. ap (λ b. b || ends_nothing (map 
         ∙ ap (λ b. not (list_any (λ e. is_said (is_watch a id) (says_watched e.1)) ls && not b)) (any_bare (λ l. is_said (is_watch a id) (says_unwatched l)) ls)
 
 stopped_timeless : Timeless stopped_law
-stopped_timeless = record { forgotten = λ ls e.
-    ap (λ b. b || (is_started e.1 && list_any (λ x. same (of e.1) (of x.1)) (map bare ls))) (any_bare (λ l. same (of e.1) (of l) && is_stopped l) ls)
-    ∙ ap (λ b. list_any (λ x. same (of e.1) (of x.1) && is_stopped x.1) ls || (is_started e.1 && b)) (any_bare (λ l. same (of e.1) (of l)) ls) }
+stopped_timeless = record {
+  forgotten = λ ls e.
+      ap (λ b. b || (is_started e.1 && list_any (λ x. same (of e.1) (of x.1)) (map bare ls))) (any_bare (λ l. same (of e.1) (of l) && is_stopped l) ls)
+      ∙ ap (λ b. list_any (λ x. same (of e.1) (of x.1) && is_stopped x.1) ls || (is_started e.1 && b)) (any_bare (λ l. same (of e.1) (of l)) ls);
+}
 
 unbroken_bare : (law : Law) → Timeless law → (ls : List Entry) → Unbroken law ls → Unbroken law (map bare ls)
 unbroken_bare law t [] h = tt

@@ -6,6 +6,7 @@ pub mod Lines
 pub mod Losing
 pub mod Numbers
 pub mod Outsides
+pub mod Skips
 pub mod Steps
 pub mod Turns
 pub mod Wholes

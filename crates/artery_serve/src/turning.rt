@@ -128,8 +128,21 @@ fn is_asked<N: Net, K: Sink, B: Board>(
     }
 }
 
+/// The line that tells that a request was skipped.
+fn skipped_line(node: &Node, sender: u64, k: u64, seen: u64, now: u64) -> Result<Line, NoMemory>
+    ensures { IfOk result (λ line. line ≡ lines.Skipped node.now.node.me sender k seen now) }
+{
+    let of = node.me().clone()?;
+    Ok(Line::Skipped {
+        of,
+        sender,
+        k,
+        seen,
+        now,
+    })
+}
+
 /// A request was skipped, and a line tells so.
-#[tactic(auto, using(crate::proofs::Steps::nothing_yet))]
 fn is_skipped<K: Sink, B: Board>(
     node: &Node,
     sender: u64,
@@ -143,17 +156,10 @@ fn is_skipped<K: Sink, B: Board>(
     ensures ok { OnOk result ((story : Option (List Step)) (asked next_faults : ℕ) → Moves (outside story asked next_faults (K.held sink.old) (K.faults sink.old) (B.counts board.old)) (outside story asked next_faults (K.held sink.new) (K.faults sink.new) (B.counts board.new)) (Writes (lines.Skipped node.now.node.me sender k seen now) ∷ []) []) }
     ensures stop { IfErr result (λ stop. (story : Option (List Step)) (asked next_faults : ℕ) → Breaks (λ failing. Writes (lines.Skipped node.now.node.me sender k seen now) ∷ []) stop (outside story asked next_faults (K.held sink.old) (K.faults sink.old) (B.counts board.old)) (outside story asked next_faults (K.held sink.new) (K.faults sink.new) (B.counts board.new))) }
 {
-    let Ok(of) = node.me().clone() else {
-        return Err(Stop::Memory);
-    };
-    let line = Line::Skipped {
-        of,
-        sender,
-        k,
-        seen,
-        now,
-    };
-    tells(&line, text, sink, board)
+    match skipped_line(node, sender, k, seen, now) {
+        Ok(line) => tells(&line, text, sink, board),
+        Err(NoMemory) => Err(Stop::Memory),
+    }
 }
 
 /// An offer comes to the node.
