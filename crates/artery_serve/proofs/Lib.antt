@@ -1,5 +1,6 @@
 pub mod Acts
 pub mod Boards
+pub mod Doings
 pub mod Ends
 pub mod Lawful
 pub mod Lines
