@@ -1,4 +1,4 @@
-ghost use Rattle.std.specs.Prelude.{◌≡◌, ℕ, List, [], ◌∷◌, ◌++◌, length, take, OnOk, OnErr, IfOk};
+ghost use Rattle.std.specs.Prelude.{◌≡◌, ℕ, List, [], ◌∷◌, ◌++◌, ◌+◌, ◌≤◌, length, take, drop, OnOk, OnErr, IfOk};
 ghost use Rattle.std.specs.Prelude.{◌==◌, nat_eq};
 ghost use Rattle.std.specs.Cmp.Lexicographic.{pointwise};
 ghost use Rattle.std.specs.Cmp.Rules.{comparing, hashing};
@@ -85,6 +85,22 @@ impl Bytes {
     {
         self.items.extend_from_slice(slice)?;
         Ok(())
+    }
+
+    /// Makes room for so many more bytes, so that they are added in one piece of memory. No byte changes.
+    pub fn reserve(&mut self, more: usize) -> Result<(), NoMemory>
+        ensures { self.new ≡ self.old }
+    {
+        self.items.reserve(more)?;
+        Ok(())
+    }
+
+    /// Puts these bytes in place of as many that stand at a place.
+    pub fn overwrite(&mut self, at: usize, slice: &[u8])
+        requires { at + length slice.now ≤ length self.old }
+        ensures { self.new ≡ take at self.old ++ (slice.now ++ drop (at + length slice.now) self.old) }
+    {
+        self.items[at..at + slice.len()].copy_from_slice(slice);
     }
 
     /// Keeps the first `len` bytes, or all where there are fewer.
