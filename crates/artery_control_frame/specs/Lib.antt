@@ -1,1 +1,2 @@
 pub mod ControlFrame
+pub mod Sizing
