@@ -44,18 +44,14 @@ unsized_is control uid old one two new a b c =
 
 -- ---- the length
 
--- what stands behind the four bytes is the envelope
-pub sized_len : EnvelopeHasLength → (control : Control) (uid : ℕ) (behind : List ℕ) → behind ≡ unsized_frame control uid → length behind ≡ 39 + length (payload_of control)
-sized_len told control uid behind e = ap length e ∙ ap (λ (n : ℕ). 4 + n) (told control uid)
-
--- with its length in their place, it is the frame
-pub sized_is : EnvelopeHasLength → (control : Control) (uid before len size : ℕ) (old new : List ℕ) → drop before old ≡ unsized_frame control uid
-    → len ≡ 35 + length (payload_of control) → size ≡ 4 → new ≡ take before old ++ (little_bytes 4 len ++ drop (before + size) old) → new ≡ take before old ++ control_frame control uid
-sized_is told control uid before len size old new stands l four e =
-    let envelope : List ℕ = canonical (control_envelope control uid) in
-    let is_size : len ≡ length envelope = l ∙ sym (told control uid) in
-    let rest : drop (before + size) old ≡ envelope = ap (λ (n : ℕ). drop (before + n) old) four ∙ sym (drop-drop 4 before old) ∙ ap (λ (t : List ℕ). drop 4 t) stands in
-    e ∙ ap (λ (t : List ℕ). take before old ++ (little_bytes 4 len ++ t)) rest ∙ ap (λ (n : ℕ). take before old ++ (little_bytes 4 n ++ envelope)) is_size
+-- four bytes in place of the zeros, and the envelope behind them
+pub sized_is : (before : ℕ) (old new bytes envelope : List ℕ) (a b c d : ℕ) → drop before old ≡ 0 ∷ 0 ∷ 0 ∷ 0 ∷ envelope → bytes ≡ a ∷ b ∷ c ∷ d ∷ []
+    → new ≡ take before old ++ (bytes ++ drop (before + length bytes) old) → new ≡ take before old ++ a ∷ b ∷ c ∷ d ∷ envelope
+sized_is before old new bytes envelope a b c d stands is e =
+    let rest : drop (before + 4) old ≡ envelope = sym (drop-drop 4 before old) ∙ ap (λ (t : List ℕ). drop 4 t) stands in
+    e
+    ∙ ap (λ (t : List ℕ). take before old ++ (t ++ drop (before + length t) old)) is
+    ∙ ap (λ (t : List ℕ). take before old ++ a ∷ b ∷ c ∷ d ∷ t) rest
 
 pub front_same : (old : List ℕ) → IsFrontOf old old
 front_same old = ap (λ (t : List ℕ). take (length old) t) (sym (append-nil old)) ∙ take_at old [] (length old) refl
@@ -68,6 +64,6 @@ front_then old one more two rest a b = front_more old two (more ++ rest) (b ∙ 
 
 pub ruleset frame_steps = (unsized_is, front_same, front_more, front_then)
 
-pub ruleset sizing_steps = (sized_len, sized_is)
+pub ruleset sizing_steps = (sized_is)
 
 pub ruleset placing_steps = (take_at, drop_at, length-append)
