@@ -1,5 +1,9 @@
 //! The same two nodes as `rattle_main.txt` in plain Rust, with HashMaps: as much of a node as these messages need, with the same checks, the
 //! same bytes and the same lines. It gives the same counts.
+#[path = "../fields.rs"]
+mod fields;
+
+use fields::{Fields, Value};
 use std::collections::{HashMap, HashSet, VecDeque};
 use std::time::Instant;
 
@@ -208,50 +212,6 @@ fn control_frame(control: &Control, uid: u64) -> Vec<u8> {
 }
 
 // ---- reading
-
-struct Fields<'a> {
-    rest: &'a [u8],
-}
-
-enum Value<'a> {
-    Number(u64),
-    Bytes(&'a [u8]),
-}
-
-fn varint(rest: &mut &[u8]) -> Option<u64> {
-    let mut n = 0;
-    for k in 0..10 {
-        let (first, others) = rest.split_first()?;
-        *rest = others;
-        n |= ((first & 127) as u64) << (7 * k);
-        if *first < 128 {
-            return Some(n);
-        }
-    }
-    None
-}
-
-impl<'a> Iterator for Fields<'a> {
-    type Item = (u64, Value<'a>);
-    fn next(&mut self) -> Option<Self::Item> {
-        if self.rest.is_empty() {
-            return None;
-        }
-        let key = varint(&mut self.rest)?;
-        let value = if key & 7 == 0 {
-            Value::Number(varint(&mut self.rest)?)
-        } else {
-            let len = varint(&mut self.rest)? as usize;
-            if len > self.rest.len() {
-                return None;
-            }
-            let (bytes, rest) = self.rest.split_at(len);
-            self.rest = rest;
-            Value::Bytes(bytes)
-        };
-        Some((key >> 3, value))
-    }
-}
 
 fn string(bytes: &[u8]) -> Option<String> {
     if bytes.is_ascii() { String::from_utf8(bytes.to_vec()).ok() } else { None }

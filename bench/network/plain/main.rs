@@ -1,5 +1,7 @@
 //! The network over bytes in plain Rust, with HashMaps: `replay`, its two options and `gen`, with the same output and status. Besides
 //! `script N`, which writes the script that `gen N` plays.
+#[path = "../../fields.rs"]
+mod fields;
 mod node;
 mod peer;
 mod script;

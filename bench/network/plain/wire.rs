@@ -1,5 +1,6 @@
 //! Frames, envelopes and control messages as bytes. All bytes come from nodes of this program: what none of them writes is
 //! read as nothing, with no word on why.
+use crate::fields::{Fields, Value};
 use crate::text::{is_part, string, Address, Unique};
 
 pub enum Control<'a> {
@@ -142,47 +143,6 @@ pub fn envelope(frame: &[u8]) -> Option<Envelope<'_>> {
         names,
         payload: &frame[at..],
     })
-}
-
-struct Fields<'a> {
-    rest: &'a [u8],
-}
-
-enum Value<'a> {
-    Number(u64),
-    Bytes(&'a [u8]),
-}
-
-fn varint(rest: &mut &[u8]) -> Option<u64> {
-    let mut n = 0;
-    for k in 0..10 {
-        let (first, others) = rest.split_first()?;
-        *rest = others;
-        n |= ((first & 127) as u64) << (7 * k);
-        if *first < 128 {
-            return Some(n);
-        }
-    }
-    None
-}
-
-impl<'a> Iterator for Fields<'a> {
-    type Item = (u64, Value<'a>);
-    fn next(&mut self) -> Option<Self::Item> {
-        if self.rest.is_empty() {
-            return None;
-        }
-        let key = varint(&mut self.rest)?;
-        let value = if key & 7 == 0 {
-            Value::Number(varint(&mut self.rest)?)
-        } else {
-            let len = varint(&mut self.rest)? as usize;
-            let (bytes, rest) = self.rest.split_at_checked(len)?;
-            self.rest = rest;
-            Value::Bytes(bytes)
-        };
-        Some((key >> 3, value))
-    }
 }
 
 fn part(bytes: &[u8]) -> Option<String> {

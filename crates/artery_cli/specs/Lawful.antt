@@ -19,7 +19,7 @@ use Rattle.artery_cli.specs.Answers.{whole_run}
 
 -- No line among what came of events breaks one of these laws: what one incarnation took from another is a prefix of what that other sent to it
 -- before; an incarnation that was closed is not learnt, closed, sent to, told, taken from, got from or heard again; each watch has an id of its own
--- and ends at most once; what one incarnation got from another on a connection is what is left of what that other told it on it before; nothing
+-- and ends at most once; what one incarnation got from another on a connection is a subsequence of what that other told it on that before; nothing
 -- stands behind a stop and no start behind a line of the same incarnation; and moments do not fall.
 pub record KeepsLaws (told : List Outcome) : Type 0 where
   pub prefix : Keeps prefix_law (journal_of told)

@@ -21,7 +21,7 @@ pub fn a_version_means_one_number()
 {}
 
 /// For every script in whose network each frame that was written is read back: in its journal, what an incarnation got from another with a nonce,
-/// up to any line, is what is left of what that other told it before on its connection with that dial number, in order. The journal of what is
+/// up to any line, is a subsequence of what that other told it before on its connection with that dial number. The journal of what is
 /// kept is the same.
 pub fn a_network_keeps_the_ordinary_law()
     ensures kept { (script : List ScriptLine) → AreReadBack (run {P = whole} {W = whole_ways} script).world.connections → Keeps ordinary_law (journal kept kept_ways script) }
@@ -31,7 +31,7 @@ pub fn a_network_keeps_the_ordinary_law()
 }
 
 /// For every script whose events a line can tell, so for each that was read: in the journal of its network, what an incarnation got from another
-/// with a nonce, up to any line, is what is left of what that other told it before on its connection with that dial number, in order.
+/// with a nonce, up to any line, is a subsequence of what that other told it before on its connection with that dial number.
 pub fn a_script_keeps_the_ordinary_law()
     ensures kept { (script : List ScriptLine) → AreTold script → Keeps ordinary_law (journal kept kept_ways script) }
     ensures whole { (script : List ScriptLine) → AreTold script → Keeps ordinary_law (journal whole whole_ways script) }
